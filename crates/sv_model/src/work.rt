@@ -1,0 +1,266 @@
+//! The steps of a work, and what is said of them.
+use sv_mask::{Layout, Stages, Usage, Usages};
+use sv_range::{Cells, List, Span};
+
+#[derive(Clone, Copy, PartialEq)]
+pub enum Track {
+    Queue(u32),
+    Sub {
+        queue: u32,
+        instance: u64,
+        subpass: u32,
+    },
+    Token(u64),
+}
+
+#[derive(Clone, Copy, PartialEq)]
+pub enum Area {
+    Bytes { res: u32, span: Span },
+    Image { res: u32, cells: Cells },
+}
+
+/// One byte of a buffer, or one mip and layer of an image.
+#[derive(Clone, Copy, PartialEq)]
+pub enum Cell {
+    Byte { res: u32, at: u64 },
+    Texel { res: u32, mip: u32, layer: u32 },
+}
+
+#[derive(Clone, Copy, PartialEq)]
+pub struct Dep {
+    pub from: Track,
+    pub s1: Stages,
+    pub a1: Usages,
+    pub to: Track,
+    pub s2: Stages,
+    pub a2: Usages,
+    pub range: Option<Area>,
+}
+
+#[derive(Clone, Copy, PartialEq)]
+pub enum What {
+    Use(Usage),
+    Transition,
+}
+
+#[derive(Clone, Copy, PartialEq)]
+pub struct Place {
+    pub event: u64,
+    pub batch: u32,
+    pub slot: u32,
+    pub rec: u32,
+    pub cmd: u32,
+}
+
+#[derive(Clone, Copy, PartialEq)]
+pub struct Access {
+    pub area: Area,
+    pub what: What,
+    pub queue: u32,
+    pub sub: Option<(u64, u32)>,
+    pub layout: Option<Layout>,
+    pub place: Place,
+    pub step: u64,
+    pub pos: u32,
+}
+
+/// A pair of old and new layouts.
+#[derive(Clone, Copy, PartialEq)]
+pub struct Old {
+    pub area: Area,
+    pub was: Layout,
+    pub becomes: Layout,
+}
+
+/// The two halves of a transfer between queue families.
+#[derive(Clone, Copy, PartialEq)]
+pub struct Transfer {
+    pub release: bool,
+    pub from: u32,
+    pub to: u32,
+    pub area: Area,
+}
+
+#[derive(Drop)]
+pub struct Group {
+    pub step: u64,
+    pub place: Place,
+    pub deps: List<Dep>,
+    pub transitions: List<Access>,
+    pub olds: List<Old>,
+    pub transfer: Option<Transfer>,
+}
+
+#[derive(Drop)]
+pub enum Step {
+    Accesses(List<Access>),
+    Groups(List<Group>),
+    SetEvent {
+        event: u32,
+        place: Place,
+        groups: List<Group>,
+    },
+    WaitEvent {
+        event: u32,
+        place: Place,
+    },
+    ResetEvent {
+        event: u32,
+        place: Place,
+    },
+}
+
+/// A finished recording.
+#[derive(Drop)]
+pub struct Recorded {
+    pub number: u32,
+    pub steps: List<Step>,
+}
+
+#[derive(Drop)]
+pub enum Event {
+    Publish(Recorded),
+    Call { lane: u32, index: u32 },
+}
+
+/// Where a command stands.
+#[derive(Clone, Copy, PartialEq)]
+pub struct Here {
+    pub rec: u32,
+    pub family: u32,
+    pub cmd: u32,
+    pub step: u64,
+    pub instance: u64,
+    pub subpass: Option<u32>,
+}
+
+/// The three kinds of command of a render pass.
+#[derive(Clone, Copy, PartialEq)]
+pub enum PassPoint {
+    Begin,
+    Next(u32),
+    End,
+}
+
+#[derive(Clone, Copy, PartialEq)]
+pub enum Item {
+    Call { lane: u32, index: u32 },
+    Batch { queue: u32, event: u64, batch: u32 },
+    Fence { queue: u32, event: u64, fence: u32 },
+}
+
+#[derive(Clone, Copy, PartialEq)]
+pub enum Held {
+    Call { lane: u32, index: u32 },
+    Batch { queue: u32, event: u64, batch: u32 },
+    Fence { queue: u32, event: u64 },
+}
+
+/// An item that was processed, with the event that released it.
+#[derive(Clone, Copy, PartialEq)]
+pub struct Taken {
+    pub item: Item,
+    pub event: u64,
+}
+
+#[derive(Clone, Copy, PartialEq)]
+pub enum FenceState {
+    Unsignalled,
+    Initial,
+    Token(u64),
+}
+
+#[derive(Clone, Copy, PartialEq)]
+pub enum Kind {
+    Raw,
+    War,
+    Waw,
+}
+
+#[derive(Clone, Copy, PartialEq)]
+pub struct Report {
+    pub area: Area,
+    pub later: Access,
+    pub earlier: Access,
+    pub kind: Kind,
+}
+
+#[derive(Clone, Copy, PartialEq)]
+pub enum Owner {
+    Nobody,
+    Family(u32),
+    Released(u32, u32),
+}
+
+#[derive(Clone, Copy, PartialEq)]
+pub enum OwnerWhat {
+    Use(Usage),
+    Transition,
+    Release,
+    Acquire,
+}
+
+#[derive(Clone, Copy, PartialEq)]
+pub struct LayoutNote {
+    pub area: Area,
+    pub what: Option<What>,
+    pub place: Place,
+    pub declared: Layout,
+    pub found: Layout,
+    pub step: u64,
+    pub pos: u32,
+    pub part: u32,
+    pub reports_before: u64,
+}
+
+#[derive(Clone, Copy, PartialEq)]
+pub struct OwnerNote {
+    pub area: Area,
+    pub what: OwnerWhat,
+    pub place: Place,
+    pub found: Owner,
+    pub step: u64,
+    pub pos: u32,
+    pub part: u32,
+    pub reports_before: u64,
+}
+
+#[derive(Clone, Copy, PartialEq)]
+pub struct EventNote {
+    pub event: u32,
+    pub place: Place,
+    pub other: Option<u32>,
+    pub reports_before: u64,
+}
+
+#[derive(Clone, Copy, PartialEq)]
+pub struct TimelineNote {
+    pub sem: u32,
+    pub event: u64,
+    pub batch: u32,
+    pub value: u64,
+    pub current: u64,
+    pub reports_before: u64,
+}
+
+#[derive(Clone, Copy, PartialEq)]
+pub struct FenceNote {
+    pub fence: u32,
+    pub event: u64,
+    pub reports_before: u64,
+}
+
+#[derive(Clone, Copy, PartialEq)]
+pub enum Note {
+    Layout(LayoutNote),
+    Owner(OwnerNote),
+    Event(EventNote),
+    Timeline(TimelineNote),
+    Fence(FenceNote),
+}
+
+#[derive(Drop)]
+pub struct Reply {
+    pub reports: List<Report>,
+    pub notes: List<Note>,
+}
