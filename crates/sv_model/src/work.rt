@@ -177,6 +177,13 @@ pub enum Kind {
     Waw,
 }
 
+/// The latest of the earlier accesses with which an access races.
+#[derive(Clone, Copy, PartialEq)]
+pub struct Partner {
+    pub access: Access,
+    pub kind: Kind,
+}
+
 #[derive(Clone, Copy, PartialEq)]
 pub struct Report {
     pub area: Area,
