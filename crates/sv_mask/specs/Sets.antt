@@ -1,5 +1,5 @@
 -- Sets as numbers: bit k of the number tells whether k is a member.
-use Rattle.std.specs.Prelude.{ℕ, ◌≡◌, ◌==◌, Bool, not, IsTrue}
+use Rattle.std.specs.Prelude.{ℕ, ◌≡◌, ◌==◌, ◌^◌, Bool, not, List, sum_by}
 use Rattle.std.specs.Int.{bit_at}
 use Rattle.std.specs.Int.RustNames.{bit_and}
 
@@ -21,3 +21,7 @@ has set k = bit_at set k == 1
 
 abbrev pub meets : ℕ → ℕ → Bool
 meets a b = not (bit_and a b == 0)
+
+-- the set of these numbers, each of which stands once
+abbrev pub set_of : List ℕ → ℕ
+set_of numbers = sum_by (λ k. 2 ^ k) numbers

@@ -1,10 +1,14 @@
 //! Pipeline stages, accesses, usages and image layouts, and sets of them.
 #![tactic(auto)]
 
+mod access;
 mod layout;
 mod stage;
+#[cfg(test)]
+mod tests;
 mod usage;
 
+pub use access::{Access16, AccessWord, Accesses};
 pub use layout::Layout;
 pub use stage::{Stage, StageWord, Stages};
-pub use usage::{Access16, AccessWord, Accesses, Usage, Usages};
+pub use usage::{Usage, Usages, access_of, is_write, stage_of};

@@ -1,0 +1,4 @@
+pub mod BitLemmas
+pub mod RowLemmas
+pub mod StageScopes
+pub mod AccessScopes
