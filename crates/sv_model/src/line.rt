@@ -2,12 +2,14 @@
 use sv_mask::{Access16, AccessWord, Layout, Stage, StageWord};
 use sv_range::List;
 
+/// What an attachment is used as.
 #[derive(Clone, Copy, PartialEq)]
 pub enum Class {
     Color,
     Depth,
 }
 
+/// The load operation of an attachment (Vulkan 1.3, "Render Pass Load Operations").
 #[derive(Clone, Copy, PartialEq)]
 pub enum Load {
     Load,
@@ -15,6 +17,8 @@ pub enum Load {
     DontCare,
 }
 
+/// The store operation of an attachment (Vulkan 1.3, "Render Pass Store Operations"). `Nothing` is the
+/// operation that makes no access.
 #[derive(Clone, Copy, PartialEq)]
 pub enum Store {
     Store,
@@ -22,18 +26,21 @@ pub enum Store {
     Nothing,
 }
 
+/// Whether a resource is owned by one queue family at a time (Vulkan 1.3, "Resource Sharing Mode").
 #[derive(Clone, Copy, PartialEq)]
 pub enum Sharing {
     Exclusive,
     Concurrent,
 }
 
+/// The type of a semaphore (Vulkan 1.3, "Semaphores").
 #[derive(Clone, Copy, PartialEq)]
 pub enum SemKind {
     Binary,
     Timeline,
 }
 
+/// A part of a resource: bytes of a buffer, of which `end` is not included, or mips and layers of an image.
 #[derive(Clone, Copy, PartialEq)]
 pub enum Part {
     Bytes {
@@ -48,7 +55,7 @@ pub enum Part {
     },
 }
 
-/// An access that a `work` declares.
+/// An access that a `work` declares. It has a layout exactly where its part is of an image.
 #[derive(Clone, Copy, PartialEq)]
 pub struct Declared {
     pub res: u32,
@@ -58,7 +65,8 @@ pub struct Declared {
     pub layout: Option<Layout>,
 }
 
-/// What an element of a barrier is limited to.
+/// What an element of a barrier is limited to, its old and new layout, and its source and destination
+/// queue family (Vulkan 1.3, "Memory Barriers").
 #[derive(Clone, Copy, PartialEq)]
 pub struct Target {
     pub res: u32,
@@ -67,7 +75,7 @@ pub struct Target {
     pub families: Option<(u32, u32)>,
 }
 
-/// An element of a barrier or of an event's set.
+/// An element of a barrier or of a set of an event: a memory barrier with its masks.
 #[derive(Clone, Copy, PartialEq)]
 pub struct Element {
     pub src: StageWord,
@@ -77,6 +85,7 @@ pub struct Element {
     pub target: Option<Target>,
 }
 
+/// An attachment of dynamic rendering: one mip and some layers of an image.
 #[derive(Clone, Copy, PartialEq)]
 pub struct Attachment {
     pub res: u32,
@@ -89,6 +98,7 @@ pub struct Attachment {
     pub store: Store,
 }
 
+/// An attachment of a render pass. `becomes` is its final layout.
 #[derive(Clone, Copy, PartialEq)]
 pub struct PassAttachment {
     pub class: Class,
@@ -98,13 +108,14 @@ pub struct PassAttachment {
     pub becomes: Layout,
 }
 
+/// The use of an attachment, by its number in the pass, in a subpass.
 #[derive(Clone, Copy, PartialEq)]
 pub struct PassUse {
     pub att: u32,
     pub layout: Layout,
 }
 
-/// A dependency of a render pass; None is external.
+/// A subpass dependency; None is external (Vulkan 1.3, "Render Pass Creation").
 #[derive(Clone, Copy, PartialEq)]
 pub struct PassDep {
     pub from: Option<u32>,
@@ -115,6 +126,7 @@ pub struct PassDep {
     pub dst_access: AccessWord,
 }
 
+/// What an attachment of a pass stands for: one mip and some layers of an image.
 #[derive(Clone, Copy, PartialEq)]
 pub struct View {
     pub res: u32,
@@ -123,6 +135,7 @@ pub struct View {
     pub layers: u64,
 }
 
+/// A wait for a semaphore or a signal of it. It has a value exactly where the semaphore is a timeline.
 #[derive(Clone, Copy, PartialEq)]
 pub struct SemaphoreUse {
     pub sem: u32,
@@ -130,6 +143,7 @@ pub struct SemaphoreUse {
     pub stages: StageWord,
 }
 
+/// A batch of a submit: what it waits for, the recordings that it runs, what it signals.
 #[derive(Drop)]
 pub struct Batch {
     pub waits: List<SemaphoreUse>,
@@ -137,6 +151,7 @@ pub struct Batch {
     pub signals: List<SemaphoreUse>,
 }
 
+/// A line of a trace: one variant for each `op`, with the members of its form in order.
 #[derive(Drop)]
 pub enum Line {
     Blank,
@@ -263,6 +278,7 @@ pub enum Command {
     EndPass,
 }
 
+/// A recording with its number, its recorder, its queue family and its commands in order.
 #[derive(Drop)]
 pub struct Recording {
     pub rec: u32,
@@ -278,6 +294,8 @@ pub enum Mark {
     Call { lane: u32, index: u32 },
 }
 
+/// A trace that was not refused: the declaring lines by kind, the recordings, sixteen scripts of lanes
+/// and sixteen of recorders, by number, and the events in the order of the text.
 #[derive(Drop)]
 pub struct Trace {
     pub queues: List<Line>,

@@ -2,6 +2,8 @@
 use sv_mask::{Layout, Stages, Usage, Usages};
 use sv_range::{Cells, List, Span};
 
+/// Where a dependency comes from or goes to: a queue, a subpass of an instance on its queue, or the
+/// token of a semaphore, a fence or an event.
 #[derive(Clone, Copy, PartialEq)]
 pub enum Track {
     Queue(u32),
@@ -13,6 +15,7 @@ pub enum Track {
     Token(u64),
 }
 
+/// Cells of a resource.
 #[derive(Clone, Copy, PartialEq)]
 pub enum Area {
     Bytes { res: u32, span: Span },
@@ -26,6 +29,8 @@ pub enum Cell {
     Texel { res: u32, mip: u32, layer: u32 },
 }
 
+/// A dependency from a first scope to a second one (Vulkan 1.3, "Execution and Memory Dependencies").
+/// A range limits its access scopes `a1` and `a2`, and never its stages `s1` and `s2`.
 #[derive(Clone, Copy, PartialEq)]
 pub struct Dep {
     pub from: Track,
@@ -37,12 +42,15 @@ pub struct Dep {
     pub range: Option<Area>,
 }
 
+/// What an access does: a usage, or a layout transition, which writes.
 #[derive(Clone, Copy, PartialEq)]
 pub enum What {
     Use(Usage),
     Transition,
 }
 
+/// Where an access comes from: the event of its submit, the batch in it, the place of the recording in
+/// the batch, the recording, the command.
 #[derive(Clone, Copy, PartialEq)]
 pub struct Place {
     pub event: u64,
@@ -52,6 +60,7 @@ pub struct Place {
     pub cmd: u32,
 }
 
+/// An access of a step, at that position in it. Its subpass is an instance and a number in it.
 #[derive(Clone, Copy, PartialEq)]
 pub struct Access {
     pub area: Area,
@@ -81,6 +90,7 @@ pub struct Transfer {
     pub area: Area,
 }
 
+/// Dependencies with the transitions and the transfer that belong to them.
 #[derive(Drop)]
 pub struct Group {
     pub step: u64,
@@ -91,6 +101,7 @@ pub struct Group {
     pub transfer: Option<Transfer>,
 }
 
+/// One unit of work. The steps of events stand in recordings alone: in a work they are groups.
 #[derive(Drop)]
 pub enum Step {
     Accesses(List<Access>),
@@ -110,13 +121,14 @@ pub enum Step {
     },
 }
 
-/// A finished recording.
+/// A finished recording, with relative queue, instances, tokens and places.
 #[derive(Drop)]
 pub struct Recorded {
     pub number: u32,
     pub steps: List<Step>,
 }
 
+/// An event: the publication of a recording by its recorder, or a call of a lane.
 #[derive(Drop)]
 pub enum Event {
     Publish(Recorded),
@@ -142,6 +154,7 @@ pub enum PassPoint {
     End,
 }
 
+/// What is processed: a call of a lane, or a batch or a fence signal that came as that event.
 #[derive(Clone, Copy, PartialEq)]
 pub enum Item {
     Call { lane: u32, index: u32 },
@@ -149,6 +162,7 @@ pub enum Item {
     Fence { queue: u32, event: u64, fence: u32 },
 }
 
+/// What is held at the end.
 #[derive(Clone, Copy, PartialEq)]
 pub enum Held {
     Call { lane: u32, index: u32 },
@@ -163,6 +177,7 @@ pub struct Taken {
     pub event: u64,
 }
 
+/// A fence: not signalled, declared signalled, or signalled with that token.
 #[derive(Clone, Copy, PartialEq)]
 pub enum FenceState {
     Unsignalled,
@@ -170,6 +185,7 @@ pub enum FenceState {
     Token(u64),
 }
 
+/// The kind of a race: read after write, write after read, write after write.
 #[derive(Clone, Copy, PartialEq)]
 pub enum Kind {
     Raw,
@@ -184,6 +200,7 @@ pub struct Partner {
     pub kind: Kind,
 }
 
+/// A race on these cells.
 #[derive(Clone, Copy, PartialEq)]
 pub struct Report {
     pub area: Area,
@@ -192,6 +209,7 @@ pub struct Report {
     pub kind: Kind,
 }
 
+/// The owner of a cell: none, a queue family, or released from one to another.
 #[derive(Clone, Copy, PartialEq)]
 pub enum Owner {
     Nobody,
@@ -199,6 +217,7 @@ pub enum Owner {
     Released(u32, u32),
 }
 
+/// An action on the owner of a cell.
 #[derive(Clone, Copy, PartialEq)]
 pub enum OwnerWhat {
     Use(Usage),
@@ -207,6 +226,8 @@ pub enum OwnerWhat {
     Acquire,
 }
 
+/// An access or a barrier whose declared layout is not the cells' layout. `what` is None for an element
+/// without a transition.
 #[derive(Clone, Copy, PartialEq)]
 pub struct LayoutNote {
     pub area: Area,
@@ -220,6 +241,7 @@ pub struct LayoutNote {
     pub reports_before: u64,
 }
 
+/// An action that does not fit the owner of the cells.
 #[derive(Clone, Copy, PartialEq)]
 pub struct OwnerNote {
     pub area: Area,
@@ -232,6 +254,7 @@ pub struct OwnerNote {
     pub reports_before: u64,
 }
 
+/// A wait for an event that is unset, or that another queue set.
 #[derive(Clone, Copy, PartialEq)]
 pub struct EventNote {
     pub event: u32,
@@ -240,6 +263,7 @@ pub struct EventNote {
     pub reports_before: u64,
 }
 
+/// A timeline signal that does not raise the value.
 #[derive(Clone, Copy, PartialEq)]
 pub struct TimelineNote {
     pub sem: u32,
@@ -250,6 +274,7 @@ pub struct TimelineNote {
     pub reports_before: u64,
 }
 
+/// A signal of a fence that is signalled.
 #[derive(Clone, Copy, PartialEq)]
 pub struct FenceNote {
     pub fence: u32,
@@ -257,6 +282,7 @@ pub struct FenceNote {
     pub reports_before: u64,
 }
 
+/// What is found besides races.
 #[derive(Clone, Copy, PartialEq)]
 pub enum Note {
     Layout(LayoutNote),
@@ -266,6 +292,7 @@ pub enum Note {
     Fence(FenceNote),
 }
 
+/// What one event releases.
 #[derive(Drop)]
 pub struct Reply {
     pub reports: List<Report>,
