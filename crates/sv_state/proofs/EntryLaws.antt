@@ -1,0 +1,133 @@
+-- The order as the entries tell it.
+use Rattle.std.proofs.Common.{not, ◌-◌, ap, ◌∙◌, length, get_or, ℕ, Bool, true, false, IsTrue, ◌||◌, ◌≡◌, ◌<◌, ◌≤◌, ◌⊎◌, ◌↔◌, inl, inr, List, [], ◌++◌, sym, refl, subst, Contains, arith, Option, Some, None, IfSome, Bor, append-nil}
+use Rattle.std.specs.Option.{option_copied}
+use Rattle.std.proofs.lemmas.List.{get_or_default}
+use Rattle.std.proofs.lemmas.List.Elements.{Contains-append_cases}
+use Rattle.sv_model.specs.Chain.{Placed, Chain, EndsAs, IsOwn, own_deps, writes}
+use Rattle.sv_model.specs.Order.{Story, DirectIn, Before, NotLater, Ordered, directly, through, Conflict, NoRaces, RacesWith, IsClear, IsPartner, extended}
+use Rattle.sv_model.proofs.Orders.{before_write, clean_extended}
+use Rattle.sv_model.proofs.Seen.{use_alike}
+use Rattle.sv_model.proofs.Transitions.{placed_step}
+use Rattle.sv_model.proofs.Paths.{Path-in}
+use Rattle.sv_model.specs.declared.work.Cell.{Cell}
+use Rattle.sv_model.specs.declared.work.Access.{Access}
+use Rattle.sv_model.specs.declared.work.Group.{Group}
+use Rattle.sv_model.specs.declared.work.What.TheVariants.{Use, Transition}
+use Rattle.sv_mask.specs.declared.usage.Usage.{Usage}
+use Rattle.sv_state.specs.declared.entry.Entry.{Entry}
+use Rattle.sv_state.specs.States.{AreListed, ThroughSome}
+use Rattle.sv_state.proofs.Standing.{any_of}
+
+-- the dependencies of its own group are of the step of the transition
+own_late : (x : Access) (group : Option (Bor Group)) → IfSome group (λ g. IsOwn x g.now) → (d : Placed) → Contains (own_deps (option_copied group)) d → x.step ≤ d.group.step
+own_late x None own d on = absurd (let h = on.1 in omega arith)
+own_late x (Some g) own d on = let s = placed_step g.now d on in let t = own.step in omega arith
+
+-- a chain to a usage ends before its step
+pub use_chain : (deps : List Placed) (cell : Cell) (a x : Access) (u : Usage) (group : Option (Bor Group)) (b : Bool) → x.what ≡ Use u → IfSome group (λ g. IsOwn x g.now) → IsTrue b ↔ Chain deps cell a x → IsTrue b ↔ Chain (deps ++ own_deps (option_copied group)) cell a x
+use_chain deps cell a x u group b is own chain =
+    let same = use_alike (record { cell = cell; accesses = []; deps = deps }) x (own_deps (option_copied group)) [] u is (own_late x group own) (λ d on. absurd (let h = on.1 in omega arith)) a in (
+      λ t. same.1 (subst (λ (ds : List Placed). Chain ds cell a x) (sym (append-nil deps)) (chain.0 t)),
+      λ c. chain.1 (subst (λ (ds : List Placed). Chain ds cell a x) (append-nil deps) (same.0 c)),
+    )
+
+-- without its own group no chain leads to a transition
+pub lone_chain : (deps : List Placed) (cell : Cell) (a x : Access) (group : Option (Bor Group)) → group ≡ None → x.what ≡ Transition → ((d : Placed) → Contains deps d → d.group.step < x.step) → IsTrue false ↔ Chain (deps ++ own_deps (option_copied group)) cell a x
+lone_chain deps cell a x None none is before = (
+  λ t. absurd (let f : false ≡ true = t in cc),
+  λ c. (let ends : IsOwn x c.last.group = subst (EndsAs cell c.last a x) is c.ends in
+      elim (Contains-append_cases deps [] c.last (Path-in c.path)) [
+        | inl old ↦ absurd (let b = before c.last old in let s = ends.step in omega arith)
+        | inr new ↦ absurd (let h = new.1 in omega arith)
+      ]),
+)
+lone_chain deps cell a x (Some g) none is before = cc
+
+-- In an epoch without races the order to x is direct, or through one write.
+module _ (story : Story) (own : List Placed) (epoch : ℕ) (entries : List Entry) (e : Entry) (x : Access) (lists : AreListed story.accesses epoch entries) (clean : NoRaces story epoch) (on : Contains entries e) where
+  abbrev deps : List Placed
+  deps = story.deps ++ own
+
+  to_order : DirectIn deps story.cell e.access x ⊎ ThroughSome deps story.cell e.access x entries → Ordered (extended story own) epoch e.access x
+  to_order (inl d) = directly d
+  to_order (inr w) =
+      let g = w.2 in
+      before_write (extended story own) epoch e.access w.0.access x (clean_extended story epoch own clean) (lists.known e on) (lists.known w.0 w.1) (lists.in_epoch e on)
+      (record { write = g.write; in_epoch = lists.in_epoch w.0 w.1; before = g.before; after = g.after }) g.direct
+
+  from_order : {y : Access} → Ordered (extended story own) epoch e.access y → DirectIn deps story.cell e.access y ⊎ ThroughSome deps story.cell e.access y entries
+  from_order (directly d) = inl d
+  from_order (through {b} {x = y} o c w d) =
+      let k = lists.listed b c w.in_epoch in
+      inr (
+        k.0,
+        k.1,
+        record {
+          write = subst (λ (a : Access). IsTrue (writes a.what)) (sym k.2) w.write;
+          before = subst (λ (a : Access). e.access.step < a.step) (sym k.2) w.before;
+          after = subst (λ (a : Access). a.step < y.step) (sym k.2) w.after;
+          direct = subst (λ (a : Access). DirectIn deps story.cell a y) (sym k.2) d;
+        },
+      )
+
+  -- the two tests tell the order
+  pub ordered_from : (b c : Bool) → IsTrue b ↔ DirectIn deps story.cell e.access x → IsTrue c ↔ ThroughSome deps story.cell e.access x entries → IsTrue (b || c) ↔ Ordered (extended story own) epoch e.access x
+  ordered_from b c b_is c_is =
+      let both = any_of b c (DirectIn deps story.cell e.access x) (ThroughSome deps story.cell e.access x entries) b_is c_is in
+      (λ t. to_order (both.0 t), λ o. both.1 (from_order o))
+
+  -- an access races where it conflicts and is not ordered
+  pub races_from : (o : Bool) → Conflict e.access x → IsTrue o ↔ Ordered (extended story own) epoch e.access x → IsTrue (not o) ↔ RacesWith (extended story own) epoch x e.access
+  races_from true c o = (λ t. absurd (let f : false ≡ true = t in cc), λ r. absurd (r.unordered (o.0 refl)))
+  races_from false c o = (
+    λ t. record { on_cell = lists.known e on; in_epoch = lists.in_epoch e on; conflict = c; unordered = λ h. let f : false ≡ true = o.1 h in cc },
+    λ r. refl,
+  )
+
+pub from_not : (b : Bool) → not b ≡ false → IsTrue b
+from_not true h = refl
+from_not false h = let e : true ≡ false = h in cc
+
+three : (m n : ℕ) → (m < n) ⊎ ((m ≡ n) ⊎ (n < m))
+three m n = grind arith
+
+not_later : (a b : Access) → Before a b → NotLater a b
+not_later a b (inl w) = inl w
+not_later a b (inr w) = inr (w.0, (let h = w.1 in omega arith))
+
+module _ (story : Story) (own : List Placed) (epoch : ℕ) (entries : List Entry) (x : Access) (lists : AreListed story.accesses epoch entries) where
+  -- the first that races from the end is the partner
+  pub partner_found : (i : ℕ) (e : Entry) → i < length entries → RacesWith (extended story own) epoch x (get_or entries i e).access → ((k : ℕ) (d : Entry) → i < k → k < length entries → Conflict (get_or entries k d).access x → Ordered (extended story own) epoch (get_or entries k d).access x) → IsPartner (extended story own) epoch x (get_or entries i e).access
+  partner_found i e below races later = record {
+    races = races;
+    latest = λ b r.
+        let f = lists.listed b r.on_cell r.in_epoch in
+        let k = f.1.0 in
+        let is : (get_or entries k f.0).access ≡ b = ap (λ (y : Entry). y.access) f.1.2 ∙ f.2 in
+        let at : (get_or entries k e).access ≡ b = ap (λ (y : Entry). y.access) (get_or_default entries k e f.0 f.1.1) ∙ is in
+        elim (three k i) [
+          | inl w ↦ subst (λ y. NotLater y (get_or entries i e).access) at (not_later (get_or entries k e).access (get_or entries i e).access (lists.in_order k i e w below))
+          | inr w ↦ elim w [
+            | inl same ↦ subst (λ y. NotLater y (get_or entries i e).access) (ap (λ j. (get_or entries j e).access) (sym same) ∙ at) (inr (refl, omega arith))
+            | inr above ↦ absurd (r.unordered (subst (λ y. Ordered (extended story own) epoch y x) is (later k f.0 above f.1.1 (subst (λ y. Conflict y x) (sym is) r.conflict))))
+          ]
+        ];
+  }
+
+  pub all_clear : ((k : ℕ) (d : Entry) → 0 ≤ k → k < length entries → Conflict (get_or entries k d).access x → Ordered (extended story own) epoch (get_or entries k d).access x) → IsClear (extended story own) epoch x
+  all_clear none a on from conflict =
+      let f = lists.listed a on from in
+      let is : (get_or entries f.1.0 f.0).access ≡ a = ap (λ (y : Entry). y.access) f.1.2 ∙ f.2 in
+      subst (λ y. Ordered (extended story own) epoch y x) is (none f.1.0 f.0 (omega arith) f.1.1 (subst (λ y. Conflict y x) (sym is) conflict))
+
+from_here : (i k : ℕ) → i - 1 ≤ k → (i ≤ k) ⊎ (i - 1 ≡ k)
+from_here i k h = grind arith
+
+pub clear_step : (story : Story) (epoch : ℕ) (entries : List Entry) (x : Access) (i : ℕ) (e : Entry) → (Conflict (get_or entries (i - 1) e).access x → Ordered story epoch (get_or entries (i - 1) e).access x) → ((k : ℕ) (d : Entry) → i ≤ k → k < length entries → Conflict (get_or entries k d).access x → Ordered story epoch (get_or entries k d).access x) → (k : ℕ) (d : Entry) → i - 1 ≤ k → k < length entries → Conflict (get_or entries k d).access x → Ordered story epoch (get_or entries k d).access x
+clear_step story epoch entries x i e here later k d from below =
+    elim (from_here i k from) [
+      | inl w ↦ later k d w below
+      | inr w ↦ (
+          let b : i - 1 < length entries = omega arith in
+          subst (λ j. Conflict (get_or entries j d).access x → Ordered story epoch (get_or entries j d).access x) w (rw (get_or_default entries (i - 1) d e b) here))
+    ]

@@ -1,0 +1,9 @@
+pub mod Sets
+pub mod Unions
+pub mod MaskLaws
+pub mod Standing
+pub mod Any
+pub mod Groups
+pub mod EntryLaws
+pub mod Changes
+pub mod StateLaws

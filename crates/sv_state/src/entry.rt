@@ -1,0 +1,229 @@
+//! The entries of a state, and whether a later access races with them.
+ghost use Rattle.std.specs.Prelude.{◌≡◌, ◌<◌, ◌≤◌, ◌++◌, ℕ, length, IsTrue, ◌↔◌, List, Contains, IfSome, MatchOption, OnOk, IfOk, Option, false, slice_index_or};
+ghost use Rattle.std.specs.List.{HoldsAt};
+ghost use Rattle.std.specs.Option.{option_copied};
+ghost use Rattle.sv_model.specs.Cells.{Within};
+ghost use Rattle.sv_model.specs.Chain.{Placed, Chain, IsOwn, own_deps};
+ghost use Rattle.sv_model.specs.Order.{Story, Raster, DirectIn, Ordered, RacesWith, IsClear, IsPartner, SameSubpass, Conflict, NoRaces, IsBelow, extended};
+ghost use Rattle.sv_model.specs.Chain as chain;
+ghost use Rattle.sv_model.specs.Order as order;
+ghost use Rattle.sv_model.specs.declared.work.Cell.{Cell};
+ghost use Rattle.sv_model.specs.declared.work.What.{What};
+ghost use Rattle.sv_model.specs.declared.work.Group.{Group};
+ghost use Rattle.sv_state.specs.Masks.{Stands};
+ghost use Rattle.sv_state.specs.States.{EachStands, ThroughSome, GoesThrough, IsEarlier, IsReady, AreNew, AllChanged, HasAdvanced, HasGoneOn};
+
+use crate::reached::{Reached, writes};
+use std::alloc::{AllocError, Global};
+use sv_mask::Usage;
+use sv_model::work::{Access, Cell, Group, Kind, Partner, What};
+
+/// An access of the epoch, with what is reached from it.
+#[derive(Drop)]
+pub struct Entry {
+    pub access: Access,
+    pub reached: Reached,
+}
+
+fn both_in_class(u: Usage, v: Usage) -> bool
+    ensures { result ≡ order.same_class (What.Use u) (What.Use v) }
+{
+    (28 <= u.0 && u.0 <= 29 && (28 <= v.0 && v.0 <= 29))
+        || (30 <= u.0 && u.0 <= 33 && (30 <= v.0 && v.0 <= 33))
+}
+
+/// Whether both are colour attachment accesses, or both are depth attachment accesses.
+fn same_class(a: What, b: What) -> bool
+    ensures { result ≡ order.same_class a b }
+{
+    match a {
+        What::Use(u) => match b {
+            What::Use(v) => both_in_class(u, v),
+            What::Transition => false,
+        },
+        What::Transition => false,
+    }
+}
+
+fn same_subpass(a: &Access, x: &Access) -> bool
+    ensures { IsTrue result ↔ SameSubpass a.now x.now a.now.sub }
+{
+    match a.sub {
+        None => false,
+        Some(s) => x.sub == Some(s) && a.queue == x.queue,
+    }
+}
+
+/// Rasterization order (Vulkan 1.3, "Rasterization Order").
+fn raster(a: &Access, x: &Access) -> bool
+    ensures { IsTrue result ↔ Raster a.now x.now }
+{
+    a.step < x.step && same_subpass(a, x) && same_class(a.what, x.what)
+}
+
+/// Whether the two accesses of a cell conflict.
+fn conflicts(a: &Access, x: &Access) -> bool
+    ensures { IsTrue result ↔ Conflict a.now x.now }
+{
+    a.step < x.step && (writes(a.what) || writes(x.what))
+}
+
+/// Whether a chain leads from the entry's access to x, which is given with its own group where it
+/// is a transition.
+fn chained(e: &Entry, x: &Access, group: Option<&Group>) -> bool
+    requires own { IfSome group (λ g. IsOwn x.now g.now) }
+    ensures { (cell : Cell) (deps : List Placed) (step : ℕ) → IsEarlier deps cell x.now (option_copied group.entry)
+        → Stands cell e.now.access deps step e.now.reached
+        → IsTrue result ↔ Chain (deps ++ own_deps (option_copied group.entry)) cell e.now.access x.now }
+{
+    match x.what {
+        What::Use(u) => e.reached.reaches_use(&e.access, x, u),
+        What::Transition => match group {
+            Some(g) => e.reached.reaches_own(&e.access, x, g),
+            None => false,
+        },
+    }
+}
+
+/// Whether the entry's access is directly ordered before x.
+fn direct(e: &Entry, x: &Access, group: Option<&Group>) -> bool
+    requires own { IfSome group (λ g. IsOwn x.now g.now) }
+    ensures { (cell : Cell) (deps : List Placed) (step : ℕ) → IsEarlier deps cell x.now (option_copied group.entry)
+        → Stands cell e.now.access deps step e.now.reached
+        → IsTrue result ↔ DirectIn (deps ++ own_deps (option_copied group.entry)) cell e.now.access x.now }
+{
+    let chained = chained(e, x, group);
+    let rastered = raster(&e.access, x);
+    chained || rastered
+}
+
+/// Whether the entry's access is a write between a and x that is directly ordered before x.
+fn goes_through(a: &Access, b: &Entry, x: &Access, group: Option<&Group>) -> bool
+    requires own { IfSome group (λ g. IsOwn x.now g.now) }
+    ensures { (cell : Cell) (deps : List Placed) (step : ℕ) → IsEarlier deps cell x.now (option_copied group.entry)
+        → Stands cell b.now.access deps step b.now.reached
+        → IsTrue result ↔ GoesThrough (deps ++ own_deps (option_copied group.entry)) cell a.now b.now.access x.now }
+{
+    let direct = direct(b, x, group);
+    writes(b.access.what) && a.step < b.access.step && b.access.step < x.step && direct
+}
+
+/// Whether some entry's access is.
+fn goes_through_some(entries: &[Entry], a: &Access, x: &Access, group: Option<&Group>) -> bool
+    requires own { IfSome group (λ g. IsOwn x.now g.now) }
+    ensures { (cell : Cell) (deps : List Placed) (step : ℕ) → IsEarlier deps cell x.now (option_copied group.entry)
+        → EachStands cell deps step entries.now
+        → IsTrue result ↔ ThroughSome (deps ++ own_deps (option_copied group.entry)) cell a.now x.now entries.now }
+{
+    for b in entries {
+        if goes_through(a, b, x, group) {
+            return true;
+        }
+    }
+    false
+}
+
+/// Whether the access of one of the entries is ordered before x.
+fn ordered(entries: &[Entry], e: &Entry, x: &Access, group: Option<&Group>) -> bool
+    requires listed { Contains entries.now e.now }
+    requires own { IfSome group (λ g. IsOwn x.now g.now) }
+    ensures { (story : Story) (epoch step : ℕ) → IsReady story epoch step entries.now x.now (option_copied group.entry)
+        → IsTrue result ↔ Ordered (extended story (own_deps (option_copied group.entry))) epoch e.now.access x.now }
+{
+    let directly = direct(e, x, group);
+    let through = goes_through_some(entries, &e.access, x, group);
+    directly || through
+}
+
+/// Whether x races with the access of one of the entries.
+fn races(entries: &[Entry], e: &Entry, x: &Access, group: Option<&Group>) -> bool
+    requires listed { Contains entries.now e.now }
+    requires own { IfSome group (λ g. IsOwn x.now g.now) }
+    ensures races { (story : Story) (epoch step : ℕ) → IsReady story epoch step entries.now x.now (option_copied group.entry)
+        → IsTrue result ↔ RacesWith (extended story (own_deps (option_copied group.entry))) epoch x.now e.now.access }
+    ensures clear { result ≡ false → (story : Story) (epoch step : ℕ) → IsReady story epoch step entries.now x.now (option_copied group.entry)
+        → Conflict e.now.access x.now → Ordered (extended story (own_deps (option_copied group.entry))) epoch e.now.access x.now }
+{
+    let ordered = ordered(entries, e, x, group);
+    conflicts(&e.access, x) && !ordered
+}
+
+fn kind_of(a: What, x: What) -> Kind
+    ensures { result ≡ order.kind_of (chain.writes a) (chain.writes x) }
+{
+    if writes(a) {
+        if writes(x) { Kind::Waw } else { Kind::Raw }
+    } else {
+        Kind::War
+    }
+}
+
+/// The latest of the entries with which x races.
+pub fn partner_of(entries: &[Entry], x: &Access, group: Option<&Group>) -> Option<Partner>
+    requires own { IfSome group (λ g. IsOwn x.now g.now) }
+    ensures { (story : Story) (epoch step : ℕ) → IsReady story epoch step entries.now x.now (option_copied group.entry)
+        → MatchOption result
+        (IsClear (extended story (own_deps (option_copied group.entry))) epoch x.now)
+        (λ p. IsPartner (extended story (own_deps (option_copied group.entry))) epoch x.now p.access
+        × (p.kind ≡ order.kind_of (chain.writes p.access.what) (chain.writes x.now.what))) }
+{
+    for i in (0..entries.len()).rev() {
+        if races(entries, &entries[i], x, group) {
+            let access = entries[i].access;
+            return Some(Partner {
+                access,
+                kind: kind_of(access.what, x.what),
+            });
+        }
+    }
+    None
+}
+
+/// Entries for the accesses, from which nothing is reached yet.
+pub fn entries_of(alloc: Global, accesses: &[Access]) -> Result<Vec<Entry>, AllocError>
+    ensures { IfOk result (λ es. AreNew accesses.now es.items) }
+{
+    let mut entries = Vec::new(alloc);
+    for a in accesses {
+        let reached = Reached::new(alloc);
+        entries.push(Entry {
+            access: *a,
+            reached,
+        })?;
+    }
+    Ok(entries)
+}
+
+fn advance(e: &mut Entry) -> Result<(), AllocError>
+    ensures { OnOk result (HasAdvanced e.old e.new) }
+{
+    e.reached.advance()?;
+    Ok(())
+}
+
+/// A later step begins for each entry.
+pub fn advance_all(entries: &mut [Entry]) -> Result<(), AllocError>
+    ensures { OnOk result (AllChanged HasAdvanced entries.old entries.new) }
+{
+    for e in entries.iter_mut() {
+        advance(e)?;
+    }
+    Ok(())
+}
+
+fn extend(e: &mut Entry, group: &Group, at: Cell) -> Result<(), AllocError>
+    ensures { OnOk result (HasGoneOn at group.now e.old e.new) }
+{
+    e.reached.extend(&e.access, group, at)?;
+    Ok(())
+}
+
+/// Each entry goes through a group of the present step, on a cell.
+pub fn extend_all(entries: &mut [Entry], group: &Group, at: Cell) -> Result<(), AllocError>
+    ensures { OnOk result (AllChanged (HasGoneOn at group.now) entries.old entries.new) }
+{
+    for e in entries.iter_mut() {
+        extend(e, group, at)?;
+    }
+    Ok(())
+}

@@ -1,0 +1,13 @@
+//! The state of one cell: the accesses of its epoch, and what dependency chains reach from each.
+#![tactic(auto)]
+
+mod entry;
+mod mask;
+mod reached;
+mod same;
+mod set;
+mod state;
+#[cfg(test)]
+mod tests;
+
+pub use state::CellState;
