@@ -1,0 +1,4 @@
+pub mod Cuts
+pub mod Ops
+pub mod RenderPass
+pub mod Values

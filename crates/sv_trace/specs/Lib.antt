@@ -1,0 +1,6 @@
+pub mod Names
+pub mod Ops
+pub mod Parts
+pub mod Lines
+pub mod Text
+pub mod Reading
