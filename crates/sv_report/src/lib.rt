@@ -1,0 +1,20 @@
+//! The printed lines of replies and refusals.
+//!
+//! Each call appends to one text. Where it finds no memory the text may hold a part of the line.
+#![tactic(auto)]
+
+mod events;
+mod lines;
+mod notes;
+mod pieces;
+mod refusals;
+mod replies;
+
+pub use events::{push_all_held, push_event, push_events, push_history};
+pub use lines::{push_call, push_publish, push_report, push_total};
+pub use notes::{push_held, push_note};
+pub use refusals::{push_refusal, refusal_text};
+pub use replies::push_reply;
+
+#[cfg(test)]
+mod tests;
