@@ -1,0 +1,244 @@
+use super::*;
+use std::alloc::{AllocError, Global};
+use std::test::Fail;
+use sv_io::{MAX_TEXT, MemSink, MemSource};
+
+const QUEUE: &str = "{\"op\":\"queue\",\"queue\":0,\"family\":0,\"lane\":0}\n";
+
+const BUFFER: &str = "{\"op\":\"buffer\",\"res\":0,\"size\":64}\n";
+
+const BEGIN: &str = "{\"op\":\"begin\",\"rec\":0,\"recorder\":0,\"family\":0}\n";
+
+const WORK: &str = "{\"op\":\"work\",\"rec\":0,\"accesses\":[{\"res\":0,\"stage\":";
+
+const COPY_WRITES: &str = "\"copy\",\"access\":\"transfer_write\",\"start\":0,\"end\":16}]}\n";
+
+const COPY_READS: &str = "\"copy\",\"access\":\"transfer_read\",\"start\":0,\"end\":16}]}\n";
+
+const BLIT_READS: &str = "\"blit\",\"access\":\"transfer_read\",\"start\":0,\"end\":16}]}\n";
+
+const BARRIER: &str = "{\"op\":\"barrier\",\"rec\":0,\"deps\":[{\"src\":[\"copy\"],\"src_access\":";
+
+const OF_MEMORY: &str =
+    "[\"transfer_write\"],\"dst\":[\"copy\"],\"dst_access\":[\"transfer_read\"]}]}\n";
+
+const OF_EXECUTION: &str = "[],\"dst\":[\"copy\"],\"dst_access\":[]}]}\n";
+
+const END: &str = "{\"op\":\"end\",\"rec\":0}\n";
+
+const SUBMIT: &str = "{\"op\":\"submit\",\"lane\":0,\"queue\":0,\"batches\":[{\"recs\":[0]}]}\n";
+
+const PUBLISHED: &str = "event 0 recorder 0 publish rec 0\n";
+
+const SUBMITTED: &str = "event 1 lane 0 call 0 submit queue 0\n";
+
+const READS_AT_1: &str = "  raw res 0 bytes 0..16 transfer_read@copy 1.0.0 rec 0 cmd 1";
+
+const READS_AT_2: &str = "  raw res 0 bytes 0..16 transfer_read@copy 1.0.0 rec 0 cmd 2";
+
+const WRITES_AT_3: &str = "  war res 0 bytes 0..16 transfer_write@copy 1.0.0 rec 0 cmd 3";
+
+const AFTER_THE_WRITE: &str = " after transfer_write@copy 1.0.0 rec 0 cmd 0\n";
+
+const AFTER_THE_BLIT: &str = " after transfer_read@blit 1.0.0 rec 0 cmd 2\n";
+
+const NOTHING: &str = "total events 0 reports 0 notes 0 held 0\n";
+
+const NONE_OF_2: &str = "total events 2 reports 0 notes 0 held 0\n";
+
+const ONE_OF_2: &str = "total events 2 reports 1 notes 0 held 0\n";
+
+const TWO_OF_2: &str = "total events 2 reports 2 notes 0 held 0\n";
+
+// More than any text of these tests is answered.
+const ROOM: usize = 4096;
+
+fn joined(alloc: Global, pieces: &[&str]) -> Result<Vec<u8>, AllocError> {
+    let mut text = Vec::new(alloc);
+    for piece in pieces {
+        text.extend_from_slice(piece.as_bytes())?;
+    }
+    Ok(text)
+}
+
+fn words_of(alloc: Global, words: &[&str]) -> Result<Vec<String>, AllocError> {
+    let mut all = Vec::new(alloc);
+    for word in words {
+        all.push(word.to_string(alloc)?)?;
+    }
+    Ok(all)
+}
+
+// The number of the status, and what is written.
+fn ran(alloc: Global, words: &[&str], text: Vec<u8>) -> Result<(u8, Vec<u8>), AllocError> {
+    let words = words_of(alloc, words)?;
+    let mut source = MemSource::new(text, Vec::new(alloc), Vec::new(alloc));
+    let mut sink = MemSink::new(alloc, ROOM, Vec::new(alloc), Vec::new(alloc))?;
+    let status = check_run(alloc, words.as_slice(), &mut source, &mut sink);
+    Ok((status.number(), sink.bytes().to_vec(alloc)?))
+}
+
+#[test]
+fn answers_texts(rt: HostRuntime) -> Result<(), Fail> {
+    let table: [(&[&str], u8, &[&str]); 9] = [
+        (
+            &[
+                QUEUE,
+                BUFFER,
+                BEGIN,
+                WORK,
+                COPY_WRITES,
+                WORK,
+                COPY_READS,
+                END,
+                SUBMIT,
+            ],
+            1,
+            &[PUBLISHED, SUBMITTED, READS_AT_1, AFTER_THE_WRITE, ONE_OF_2],
+        ),
+        (
+            &[
+                QUEUE,
+                BUFFER,
+                BEGIN,
+                WORK,
+                COPY_WRITES,
+                WORK,
+                COPY_READS,
+                WORK,
+                BLIT_READS,
+                WORK,
+                COPY_WRITES,
+                END,
+                SUBMIT,
+            ],
+            1,
+            &[
+                PUBLISHED,
+                SUBMITTED,
+                READS_AT_1,
+                AFTER_THE_WRITE,
+                WRITES_AT_3,
+                AFTER_THE_BLIT,
+                TWO_OF_2,
+            ],
+        ),
+        (&[], 0, &[NOTHING]),
+        (&["{\"op\":\"que"], 2, &["line 1 refused 1 BadJson\n"]),
+        (
+            &[QUEUE, BUFFER, BEGIN, WORK, COPY_WRITES, WORK, COPY_READS],
+            2,
+            &["line 6 refused 15 Unfinished\n"],
+        ),
+        (
+            &[
+                QUEUE,
+                BUFFER,
+                BEGIN,
+                WORK,
+                COPY_WRITES,
+                BARRIER,
+                OF_MEMORY,
+                WORK,
+                COPY_READS,
+                END,
+                SUBMIT,
+            ],
+            0,
+            &[PUBLISHED, SUBMITTED, NONE_OF_2],
+        ),
+        (
+            &[
+                QUEUE,
+                BUFFER,
+                BEGIN,
+                WORK,
+                COPY_WRITES,
+                BARRIER,
+                OF_EXECUTION,
+                WORK,
+                COPY_READS,
+                END,
+                SUBMIT,
+            ],
+            1,
+            &[PUBLISHED, SUBMITTED, READS_AT_2, AFTER_THE_WRITE, ONE_OF_2],
+        ),
+        (
+            &[
+                QUEUE,
+                BUFFER,
+                BEGIN,
+                WORK,
+                COPY_READS,
+                BARRIER,
+                OF_EXECUTION,
+                WORK,
+                COPY_WRITES,
+                END,
+                SUBMIT,
+            ],
+            0,
+            &[PUBLISHED, SUBMITTED, NONE_OF_2],
+        ),
+        (&["[]"], 2, &["line 1 refused 16 NotBuilt\n"]),
+    ];
+    for (text, number, written) in table {
+        let text = joined(rt.alloc(), text)?;
+        let written = joined(rt.alloc(), written)?;
+        let answer = ran(rt.alloc(), &["check"], text)?;
+        assert_eq!(rt; answer.0, number);
+        assert_eq!(rt; answer.1.as_slice(), written.as_slice());
+    }
+    Ok(())
+}
+
+#[test]
+fn other_words_are_usage(rt: HostRuntime) -> Result<(), Fail> {
+    let table: [&[&str]; 3] = [&[], &["check", "now"], &["chec"]];
+    for words in table {
+        let answer = ran(rt.alloc(), words, Vec::new(rt.alloc()))?;
+        assert_eq!(rt; answer.0, 3);
+        assert!(rt; answer.1.is_empty());
+    }
+    Ok(())
+}
+
+#[test]
+fn stops_at_faults(rt: HostRuntime) -> Result<(), Fail> {
+    // The calls that fail, of the source and of the sink: each first call takes 8 bytes.
+    let table = [
+        (9u64, 9u64, 2u8, "line 1 refused 16 NotBuilt\n"),
+        (1, 9, 4, ""),
+        (9, 0, 5, ""),
+        (9, 1, 5, "line 1 r"),
+    ];
+    let words = words_of(rt.alloc(), &["check"])?;
+    for (source_fails, sink_fails, number, written) in table {
+        let text = b"[]        ".to_vec(rt.alloc())?;
+        let pieces = vec![in rt.alloc(); 8usize]?;
+        let fails = vec![in rt.alloc(); source_fails]?;
+        let mut source = MemSource::new(text, pieces, fails);
+        let pieces = vec![in rt.alloc(); 8usize]?;
+        let fails = vec![in rt.alloc(); sink_fails]?;
+        let mut sink = MemSink::new(rt.alloc(), ROOM, pieces, fails)?;
+        let status = check_run(rt.alloc(), words.as_slice(), &mut source, &mut sink);
+        assert_eq!(rt; status.number(), number);
+        assert_eq!(rt; sink.bytes(), written.as_bytes());
+    }
+    Ok(())
+}
+
+#[test]
+fn reads_up_to_the_limit(rt: HostRuntime) -> Result<(), Fail> {
+    let spaces = vec![in rt.alloc(); b' '; MAX_TEXT + 1]?;
+    let answer = ran(rt.alloc(), &["check"], spaces)?;
+    assert_eq!(rt; answer.0, 7);
+    assert!(rt; answer.1.is_empty());
+
+    let spaces = vec![in rt.alloc(); b' '; MAX_TEXT]?;
+    let answer = ran(rt.alloc(), &["check"], spaces)?;
+    assert_eq!(rt; answer.0, 0);
+    assert_eq!(rt; answer.1.as_slice(), NOTHING.as_bytes());
+    Ok(())
+}

@@ -1,0 +1,48 @@
+//! `svval check`: reads a trace from standard input and writes the answer to it to standard output.
+//! The program ends with the number of the run's status, 0 to 7.
+#![tactic(auto)]
+
+use std::env;
+use std::io::ErrorKind;
+use std::process::ExitCode;
+use sv_app::{Status, check_run};
+use sv_io::{StdSink, StdSource};
+
+// The arguments after the program's name. One that is not text can only be wrong usage.
+fn words(rt: &HostRuntime) -> Result<Vec<String>, Status> {
+    match env::args(rt) {
+        Ok(args) => args.skip(1).collect(rt.alloc()).map_err(|_| Status::Memory),
+        Err(error) if error.kind() == ErrorKind::OutOfMemory => Err(Status::Memory),
+        Err(_) => Err(Status::Usage),
+    }
+}
+
+fn run(rt: &HostRuntime) -> Status {
+    let mut source = StdSource::new(rt.stdin());
+    let mut sink = StdSink::new(rt.stdout());
+    match words(rt) {
+        Ok(words) => check_run(rt.alloc(), words.as_slice(), &mut source, &mut sink),
+        Err(status) => status,
+    }
+}
+
+// What standard error is told of a run that did not write its whole answer.
+fn complaint(status: Status) -> Option<&'static str> {
+    match status {
+        Status::Clean | Status::Found | Status::Refused => None,
+        Status::Usage => Some("usage: svval check"),
+        Status::ReadFault => Some("read fault"),
+        Status::WriteFault => Some("write fault"),
+        Status::Memory => Some("out of memory"),
+        Status::TooLong => Some("too long"),
+    }
+}
+
+fn main(rt: HostRuntime) -> ExitCode {
+    let status = run(&rt);
+    if let Some(text) = complaint(status) {
+        // Where standard error takes nothing, the status still tells.
+        let _ = rt.eprintln(text);
+    }
+    ExitCode::from(status.number())
+}
