@@ -104,8 +104,8 @@ fn goes_through(a: &Access, b: &Entry, x: &Access, group: Option<&Group>) -> boo
         → Stands cell b.now.access deps step b.now.reached
         → IsTrue result ↔ GoesThrough (deps ++ own_deps (option_copied group.entry)) cell a.now b.now.access x.now }
 {
-    let direct = direct(b, x, group);
-    writes(b.access.what) && a.step < b.access.step && b.access.step < x.step && direct
+    let between = writes(b.access.what) && a.step < b.access.step && b.access.step < x.step;
+    between && direct(b, x, group)
 }
 
 /// Whether some entry's access is.
@@ -130,9 +130,10 @@ fn ordered(entries: &[Entry], e: &Entry, x: &Access, group: Option<&Group>) -> b
     ensures { (story : Story) (epoch step : ℕ) → IsReady story epoch step entries.now x.now (option_copied group.entry)
         → IsTrue result ↔ Ordered (extended story (own_deps (option_copied group.entry))) epoch e.now.access x.now }
 {
-    let directly = direct(e, x, group);
-    let through = goes_through_some(entries, &e.access, x, group);
-    directly || through
+    if direct(e, x, group) {
+        return true;
+    }
+    goes_through_some(entries, &e.access, x, group)
 }
 
 /// Whether x races with the access of one of the entries.
@@ -144,8 +145,10 @@ fn races(entries: &[Entry], e: &Entry, x: &Access, group: Option<&Group>) -> boo
     ensures clear { result ≡ false → (story : Story) (epoch step : ℕ) → IsReady story epoch step entries.now x.now (option_copied group.entry)
         → Conflict e.now.access x.now → Ordered (extended story (own_deps (option_copied group.entry))) epoch e.now.access x.now }
 {
-    let ordered = ordered(entries, e, x, group);
-    conflicts(&e.access, x) && !ordered
+    if !conflicts(&e.access, x) {
+        return false;
+    }
+    !ordered(entries, e, x, group)
 }
 
 fn kind_of(a: What, x: What) -> Kind
