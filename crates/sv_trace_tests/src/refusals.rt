@@ -292,7 +292,7 @@ static LINES: [(&str, u64); 122] = [
 ];
 
 // The number of the refusal of line 7: 0 where it is taken.
-fn refusal_of(rt: &HostRuntime, line: &[u8]) -> u64 {
+pub fn refusal_of(rt: &HostRuntime, line: &[u8]) -> u64 {
     match read_line(rt.alloc(), line, 7) {
         Ok(_) => 0,
         Err(Fault::Memory) => 99,
