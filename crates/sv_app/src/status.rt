@@ -4,13 +4,21 @@ ghost use Rattle.sv_app.specs.Status.{number_of};
 /// How a run ends; the program ends with the number of this.
 #[derive(Clone, Copy, PartialEq)]
 pub enum Status {
+    /// The text of the trace was written; it has no report, note or held item.
     Clean,
+    /// The text of the trace was written; it has one of these.
     Found,
+    /// The line of the least bad line was written.
     Refused,
+    /// The words are none that the program takes. Nothing was read or written.
     Usage,
+    /// The source failed. Nothing was written.
     ReadFault,
+    /// The sink failed. A first part of the answer was written.
     WriteFault,
+    /// There is no memory. Nothing was written.
     Memory,
+    /// The text is longer than it may be. Nothing was written.
     TooLong,
 }
 

@@ -6,8 +6,9 @@ use crate::rows::{DEVICE_STAGES, EARLIER, LATER, PLAIN_STAGES};
 use crate::union::{holds, union_of_rows, with_flag};
 use sv_mask::{StageWord, Stages};
 
-/// The first synchronization scope of a source mask: the named stages with all logically earlier
-/// ones, and all stages but the host where the bottom of the pipe is named.
+/// The first synchronization scope of a source mask (Vulkan 1.3, "Execution and Memory Dependencies"): the
+/// named stages with all logically earlier ones, and all stages but the host where the bottom of the pipe is
+/// named.
 /// Bits of the word above the 17 plain stages name nothing.
 pub fn first_sync(word: StageWord) -> Stages
     ensures { result ≡ spec.first_sync word }
@@ -17,8 +18,8 @@ pub fn first_sync(word: StageWord) -> Stages
     Stages(all as u32)
 }
 
-/// The second synchronization scope of a destination mask: the named stages with all logically
-/// later ones, and all stages but the host where the top of the pipe is named.
+/// The second synchronization scope of a destination mask (Vulkan 1.3, "Execution and Memory Dependencies"): the
+/// named stages with all logically later ones, and all stages but the host where the top of the pipe is named.
 /// Bits of the word above the 17 plain stages name nothing.
 pub fn second_sync(word: StageWord) -> Stages
     ensures { result ≡ spec.second_sync word }

@@ -38,7 +38,7 @@ fn read_items<W: Whole>(alloc: Global, items: &[Value]) -> Result<Found<List<W::
     Ok(Found { flaw, value: parts })
 }
 
-/// A list of parts.
+/// A list of parts, each of which is read in the form of W. Fails only for want of memory.
 #[tactic(auto, unfolding(crate::specs::Form::list))]
 pub fn read_list<W: Whole>(alloc: Global, value: &Value) -> Result<Found<List<W::Made>>, AllocError>
     ensures { IfOk result (λ it. it ≡ list W.form (view value.now)) }
@@ -52,7 +52,7 @@ pub fn read_list<W: Whole>(alloc: Global, value: &Value) -> Result<Found<List<W:
     }
 }
 
-/// The member of this name, a list of parts.
+/// The member of this name, a list of parts. Fails only for want of memory.
 #[tactic(auto, unfolding(crate::specs::Form::member))]
 pub fn list_at<W: Whole>(
     alloc: Global,
@@ -67,7 +67,8 @@ pub fn list_at<W: Whole>(
     }
 }
 
-/// The same where a missing member is an empty list.
+/// The member of this name, a list of parts, which is empty where the member is missing. Fails only for want of
+/// memory.
 #[tactic(auto, unfolding(crate::specs::Form::or_else))]
 pub fn maybe_list_at<W: Whole>(
     alloc: Global,

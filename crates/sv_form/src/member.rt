@@ -25,7 +25,7 @@ pub fn part_at<P: Part>(value: &Value, name: &str) -> Found<P::Made>
     }
 }
 
-/// The same where the member may be missing.
+/// The member of this name, in the form of P, or None where it is missing.
 #[tactic(auto, unfolding(crate::specs::Form::maybe))]
 pub fn maybe_at<P: Part>(value: &Value, name: &str) -> Found<Option<P::Made>>
     ensures { result ≡ maybe name.now P.form (view value.now) }
@@ -45,7 +45,7 @@ pub fn maybe_at<P: Part>(value: &Value, name: &str) -> Found<Option<P::Made>>
     }
 }
 
-/// The same where a missing member says `default`.
+/// The member of this name, in the form of P, which says `default` where it is missing.
 #[tactic(auto, unfolding(crate::specs::Form::or_else))]
 pub fn or_at<P: Part>(value: &Value, name: &str, default: P::Made) -> Found<P::Made>
     ensures { result ≡ or_else name.now P.form default (view value.now) }

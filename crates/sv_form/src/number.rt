@@ -78,7 +78,7 @@ pub fn number_between(value: &Value, lowest: u64, most: u64) -> Found<u64>
     }
 }
 
-/// The same with bounds of 32 bits.
+/// A number from `lowest` to `most` in 32 bits.
 #[tactic(auto, unfolding(crate::specs::Form::between))]
 pub fn small_between(value: &Value, lowest: u32, most: u32) -> Found<u32>
     ensures { result ≡ between lowest most (view value.now) }

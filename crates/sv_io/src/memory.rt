@@ -81,7 +81,7 @@ impl Model for MemSource {
 }
 
 impl MemSource {
-    /// A source of these bytes. Calls count from 0: the i-th takes at most the i-th of `pieces`, where there is one, and those in `fails` fail.
+    /// A source of these bytes. Calls count from 0: the i-th takes at most the i-th of `pieces`, where there is one, and those in `fails` fail. No piece is 0.
     pub fn new(bytes: Vec<u8>, pieces: Vec<usize>, fails: Vec<u64>) -> MemSource
         requires { All (λ size. 0 < size) pieces.items }
         ensures { result ≡ record {
@@ -164,7 +164,7 @@ impl Model for MemSink {
 }
 
 impl MemSink {
-    /// A sink with room for so many bytes. Calls count from 0: the i-th takes at most the i-th of `pieces`, where there is one, and those in `fails` fail, as does one past the room.
+    /// A sink with room for so many bytes. Calls count from 0: the i-th takes at most the i-th of `pieces`, where there is one, and those in `fails` fail, as does one past the room. No piece is 0. Fails only for want of memory.
     pub fn new(
         alloc: Global,
         room: usize,

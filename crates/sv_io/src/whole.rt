@@ -16,10 +16,13 @@ const PIECE: usize = 65_536;
 /// Why a text was not read.
 #[derive(Clone, Copy, Debug, Error)]
 pub enum ReadStop {
+    /// A read failed.
     #[error("read fault")]
     Failed,
+    /// The source gave more than [`MAX_TEXT`] bytes.
     #[error("too long")]
     TooLong,
+    /// There is no memory.
     #[error("out of memory")]
     Memory,
 }
@@ -31,7 +34,7 @@ fn blank_piece(alloc: Global) -> Result<Vec<u8>, AllocError>
     vec![in alloc; 0; PIECE]
 }
 
-/// Reads to the end. Stops at the first fault, and at the first read with which the text has more than `MAX_TEXT` bytes.
+/// Reads to the end, and gives all bytes that were read. Stops with `Failed` at the first fault, with `TooLong` at the first read with which the text has more than [`MAX_TEXT`] bytes, and with `Memory` for want of memory.
 pub fn read_all<S: Source>(alloc: Global, source: &mut S) -> Result<Vec<u8>, ReadStop>
     ensures failed { IsErrOf result ReadStop.Failed → Rose (S.faults source.old) (S.faults source.new) }
     ensures no_fault { result ≢ Err ReadStop.Failed → S.faults source.new ≡ S.faults source.old }

@@ -73,7 +73,7 @@ pub struct Access {
     pub pos: u32,
 }
 
-/// A pair of old and new layouts.
+/// A pair of old and new layouts of the cells of an area (Vulkan 1.3, "Image Layout Transitions").
 #[derive(Clone, Copy, PartialEq)]
 pub struct Old {
     pub area: Area,
@@ -81,7 +81,8 @@ pub struct Old {
     pub becomes: Layout,
 }
 
-/// The two halves of a transfer between queue families.
+/// One half of a transfer between queue families, its release or its acquire (Vulkan 1.3, "Queue Family
+/// Ownership Transfer").
 #[derive(Clone, Copy, PartialEq)]
 pub struct Transfer {
     pub release: bool,
@@ -90,7 +91,8 @@ pub struct Transfer {
     pub area: Area,
 }
 
-/// Dependencies with the transitions and the transfer that belong to them.
+/// Dependencies with the layout transitions and the transfer that belong to them, of a step with that
+/// number. `olds` has each pair of layouts that the element or render pass names, transition or not.
 #[derive(Drop)]
 pub struct Group {
     pub step: u64,
@@ -121,7 +123,8 @@ pub enum Step {
     },
 }
 
-/// A finished recording, with relative queue, instances, tokens and places.
+/// The steps of a finished recording. Queue, instances, tokens and places are relative: they are bound
+/// when a batch runs it.
 #[derive(Drop)]
 pub struct Recorded {
     pub number: u32,
@@ -135,7 +138,9 @@ pub enum Event {
     Call { lane: u32, index: u32 },
 }
 
-/// Where a command stands.
+/// Where a command stands in its recording, of this queue family. `step` is the number of its first step
+/// there, `instance` the number there of the render scope in which it stands or which it begins or ends,
+/// else 0, and `subpass` None outside render scopes.
 #[derive(Clone, Copy, PartialEq)]
 pub struct Here {
     pub rec: u32,
@@ -146,7 +151,8 @@ pub struct Here {
     pub subpass: Option<u32>,
 }
 
-/// The three kinds of command of a render pass.
+/// The commands of a render pass: its begin, the next subpass with its number, its end (Vulkan 1.3, "Render
+/// Pass Commands").
 #[derive(Clone, Copy, PartialEq)]
 pub enum PassPoint {
     Begin,
@@ -162,7 +168,8 @@ pub enum Item {
     Fence { queue: u32, event: u64, fence: u32 },
 }
 
-/// What is held at the end.
+/// What is held at the end: a call of a lane, or a batch or the fence signal of the submit that came as
+/// that event.
 #[derive(Clone, Copy, PartialEq)]
 pub enum Held {
     Call { lane: u32, index: u32 },
@@ -200,7 +207,7 @@ pub struct Partner {
     pub kind: Kind,
 }
 
-/// A race on these cells.
+/// A race on these cells, which neighbour each other: the later access is not ordered after the earlier.
 #[derive(Clone, Copy, PartialEq)]
 pub struct Report {
     pub area: Area,
@@ -227,7 +234,9 @@ pub enum OwnerWhat {
 }
 
 /// An access or a barrier whose declared layout is not the cells' layout. `what` is None for an element
-/// without a transition.
+/// without a transition. `step`, `pos` and `part` tell notes apart: the step, the position of the access or
+/// of the group in it, and the position of the pair of layouts in its group. `reports_before` is how many
+/// reports of its reply stand before the note; so it is for all notes.
 #[derive(Clone, Copy, PartialEq)]
 pub struct LayoutNote {
     pub area: Area,
@@ -241,7 +250,7 @@ pub struct LayoutNote {
     pub reports_before: u64,
 }
 
-/// An action that does not fit the owner of the cells.
+/// An action that does not fit the owner of the cells. `step`, `pos` and `part` are as for layouts.
 #[derive(Clone, Copy, PartialEq)]
 pub struct OwnerNote {
     pub area: Area,
@@ -254,7 +263,7 @@ pub struct OwnerNote {
     pub reports_before: u64,
 }
 
-/// A wait for an event that is unset, or that another queue set.
+/// A wait for an event that is unset, or that the queue `other` set.
 #[derive(Clone, Copy, PartialEq)]
 pub struct EventNote {
     pub event: u32,
@@ -263,7 +272,8 @@ pub struct EventNote {
     pub reports_before: u64,
 }
 
-/// A timeline signal that does not raise the value.
+/// A signal of a timeline semaphore that does not raise its value, in that batch of the submit that came as
+/// that event.
 #[derive(Clone, Copy, PartialEq)]
 pub struct TimelineNote {
     pub sem: u32,
@@ -274,7 +284,7 @@ pub struct TimelineNote {
     pub reports_before: u64,
 }
 
-/// A signal of a fence that is signalled.
+/// A signal of a fence that is signalled already, of the submit that came as that event.
 #[derive(Clone, Copy, PartialEq)]
 pub struct FenceNote {
     pub fence: u32,
@@ -292,7 +302,7 @@ pub enum Note {
     Fence(FenceNote),
 }
 
-/// What one event releases.
+/// What one event is answered: the reports and notes of the steps that it released, in order.
 #[derive(Drop)]
 pub struct Reply {
     pub reports: List<Report>,

@@ -6,7 +6,7 @@ use crate::{Cells, List, Span};
 use std::alloc::{AllocError, Global};
 
 /// The cells of a box as runs of the line numbers `mip * layers + layer`, ascending: one run for each mip.
-/// `layers` is the number of layers of the image, inside which the box lies.
+/// `layers` is the number of layers of the image, inside which the box lies. Fails only for want of memory.
 pub fn runs(alloc: Global, cells: Cells, layers: u32) -> Result<List<Span>, AllocError>
     requires has_layers { 0 < cells.layers }
     requires within { cells.layer + cells.layers ≤ layers }

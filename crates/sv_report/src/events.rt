@@ -36,7 +36,8 @@ fn call_in(trace: &Trace, lane: u32, index: u32) -> Option<&Line>
     }
 }
 
-/// Appends the line of the event with this number: of a mark that is one of the trace.
+/// Appends the line of the event with this number, or nothing where the mark names a recording or call that the
+/// trace does not have.
 #[tactic(auto, unfolding(crate::specs::Text::event_line))]
 pub fn push_event(
     text: &mut String,

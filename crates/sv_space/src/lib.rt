@@ -1,4 +1,4 @@
-//! The states of all cells: what a step of the work reports.
+//! The states of the bytes of a buffer: what a step of the work reports.
 #![tactic(auto)]
 
 mod extending;

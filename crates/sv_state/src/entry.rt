@@ -108,7 +108,7 @@ fn goes_through(a: &Access, b: &Entry, x: &Access, group: Option<&Group>) -> boo
     between && direct(b, x, group)
 }
 
-/// Whether some entry's access is.
+/// Whether some entry's access is a write between a and x that is directly ordered before x.
 fn goes_through_some(entries: &[Entry], a: &Access, x: &Access, group: Option<&Group>) -> bool
     requires own { IfSome group (λ g. IsOwn x.now g.now) }
     ensures { (cell : Cell) (deps : List Placed) (step : ℕ) → IsEarlier deps cell x.now (option_copied group.entry)

@@ -1,4 +1,4 @@
--- The forms of the lines, in the order of the document of line forms.
+-- The forms of the lines, in the order of docs/TRACE.md.
 use Rattle.std.specs.Prelude.{ℕ, List, [], ◌∷◌, length, Bool, true, false, ◌&&◌, nat_lt, nat_le, Option, None, Some, codes}
 use Rattle.std.specs.List.{list_all}
 use Rattle.serde_json.specs.Data.{Data}

@@ -1,4 +1,4 @@
--- The forms of the parts of lines. Each lists the members of a part in the order of the document of line forms.
+-- The forms of the parts of lines. Each lists the members of a part in the order of docs/TRACE.md.
 use Rattle.std.specs.Prelude.{ℕ, List, [], Bool, false, ◌||◌, if◌then◌else◌, Option, None, Some, is_some, codes}
 use Rattle.std.specs.Option.{option_map_or}
 use Rattle.std.specs.Str.{bytes_eq}

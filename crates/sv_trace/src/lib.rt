@@ -20,5 +20,4 @@ mod render_pass;
 mod table;
 
 pub use cut::cut_lines;
-pub use op::Op;
 pub use read::read_line;
