@@ -102,7 +102,7 @@ declared_ends size a h = ends_of_five (a.res == 0) (is_built_stage a.stage) (is_
 work_parts : (before : List Line) (rec : ℕ) (accesses : List Declared) → follows before (line.Work rec accesses) ≡ true → (nat_le (length accesses) 64 ≡ true) × (list_all (is_built_declared (buffer_size before)) accesses ≡ true)
 work_parts before rec accesses h = second_of_three (rec == 0) (nat_le (length accesses) 64) (list_all (is_built_declared (buffer_size before)) accesses) (work_built before rec accesses h)
 
-barrier_parts : (before : List Line) (rec : ℕ) (deps : List Element) → follows before (line.Barrier rec deps) ≡ true → (nat_le (length deps) 64 ≡ true) × (list_all is_built_element deps ≡ true)
+pub barrier_parts : (before : List Line) (rec : ℕ) (deps : List Element) → follows before (line.Barrier rec deps) ≡ true → (nat_le (length deps) 64 ≡ true) × (list_all is_built_element deps ≡ true)
 barrier_parts before rec deps h = second_of_three (rec == 0) (nat_le (length deps) 64) (list_all is_built_element deps) (barrier_built before rec deps h)
 
 -- the buffer has at most 4096 bytes
@@ -123,7 +123,7 @@ accesses_fit size (a ∷ accesses) h =
     let both = and_parts _ _ h in
     All-cons AccessFits a accesses (part_fits size a.part (declared_ends size a both.0).1) (accesses_fit size accesses both.1)
 
-no_target : (e : Element) → is_built_element e ≡ true → is_none e.target ≡ true
+pub no_target : (e : Element) → is_built_element e ≡ true → is_none e.target ≡ true
 no_target e h = (second_of_three (is_built_pair e.src e.src_access) (is_built_pair e.dst e.dst_access) (is_none e.target) h).1
 
 target_fits : (t : Option Target) → is_none t ≡ true → TargetFits t
@@ -154,10 +154,10 @@ abbrev barrier_groups : ℕ → ℕ → ℕ → List Element → List Group
 barrier_groups at number pos deps = map bound_group (groups_from number pos (map (element_group (here_at at)) deps))
 
 abbrev work_step : ℕ → List Declared → Step
-work_step number accesses = Accesses (work_accesses number number 0 accesses)
+work_step number accesses = Accesses (work_accesses number (number + 1) 0 accesses)
 
 abbrev barrier_step : ℕ → List Element → Step
-barrier_step number deps = Groups (barrier_groups number number 0 deps)
+barrier_step number deps = Groups (barrier_groups number (number + 1) 0 deps)
 
 only_one : (a b : Step) → a ∷ [] ≡ b ∷ [] → a ≡ b
 only_one a b e = ap (λ (xs : List Step). get_or xs 0 a) e
@@ -193,7 +193,7 @@ stay at number pos (e ∷ deps) h =
     All-cons (λ (g : Group). g.transitions ≡ []) _ _ (ap (accesses_from number pos) none) (stay at number (pos + length (element_group (here_at at) e).transitions) deps both.1)
 
 no_accesses : (number : ℕ) (deps : List Element) → list_all is_built_element deps ≡ true → accesses_of (barrier_step number deps) ≡ []
-no_accesses number deps h = no_transitions (barrier_groups number number 0 deps) (stay number number 0 deps h)
+no_accesses number deps h = no_transitions (barrier_groups number (number + 1) 0 deps) (stay number (number + 1) 0 deps h)
 
 -- numbers and positions
 
@@ -210,26 +210,26 @@ groups_numbered : (number pos : ℕ) (gs : List Group) → All (λ (g : Group). 
 groups_numbered number pos [] = All-nil (λ (g : Group). g.step ≡ number)
 groups_numbered number pos (g ∷ gs) = All-cons (λ (h : Group). h.step ≡ number) _ _ refl (groups_numbered number (pos + length g.transitions) gs)
 
-work_next : (number : ℕ) (accesses : List Declared) → IsNext number (work_step number accesses)
+work_next : (number : ℕ) (accesses : List Declared) → IsNext (number + 1) (work_step number accesses)
 work_next number accesses = record {
   numbered = record {
-    accesses = λ a on. All-contains (λ (b : Access). b.step ≡ number) _ a (accesses_numbered number 0 (map (declared_access (here_at number)) accesses)) on;
+    accesses = λ a on. All-contains (λ (b : Access). b.step ≡ number + 1) _ a (accesses_numbered (number + 1) 0 (map (declared_access (here_at number)) accesses)) on;
     groups = λ g on. absurd (let h = on.1 in omega arith);
   };
-  positions = λ k d lt. accesses_placed number 0 (map (declared_access (here_at number)) accesses) k d lt ∙ omega arith;
+  positions = λ k d lt. accesses_placed (number + 1) 0 (map (declared_access (here_at number)) accesses) k d lt ∙ omega arith;
 }
 
-barrier_next : (number : ℕ) (deps : List Element) → list_all is_built_element deps ≡ true → IsNext number (barrier_step number deps)
+barrier_next : (number : ℕ) (deps : List Element) → list_all is_built_element deps ≡ true → IsNext (number + 1) (barrier_step number deps)
 barrier_next number deps h = record {
   numbered = record {
     accesses = λ a on. absurd (let c = subst (λ (xs : List Access). Contains xs a) (no_accesses number deps h) on in let l = c.1 in omega arith);
-    groups = λ g on. All-contains (λ (b : Group). b.step ≡ number) _ g (groups_numbered number 0 (map (element_group (here_at number)) deps)) on;
+    groups = λ g on. All-contains (λ (b : Group). b.step ≡ number + 1) _ g (groups_numbered (number + 1) 0 (map (element_group (here_at number)) deps)) on;
   };
   positions = λ k d lt. absurd (let l = subst (λ (xs : List Access). k < length xs) (no_accesses number deps h) lt in omega arith);
 }
 
-pub step_is_next : (before : List Line) (line : Line) (number : ℕ) (step : Step) → IsAccepted (line ∷ before) → bound_steps number (command_of line) ≡ step ∷ [] → IsNext number step
-step_is_next before line number step a e = by_command (IsNext number) before line number step (λ accesses h. work_next number accesses) (barrier_next number) a.0 e
+pub step_is_next : (before : List Line) (line : Line) (number : ℕ) (step : Step) → IsAccepted (line ∷ before) → bound_steps number (command_of line) ≡ step ∷ [] → IsNext (number + 1) step
+step_is_next before line number step a e = by_command (IsNext (number + 1)) before line number step (λ accesses h. work_next number accesses) (barrier_next number) a.0 e
 
 -- inside the buffer
 
@@ -250,7 +250,7 @@ accesses_inside size at number pos (a ∷ accesses) small h =
 
 pub step_may_touch : (before : List Line) (line : Line) (number : ℕ) (step : Step) → IsAccepted (line ∷ before) → bound_steps number (command_of line) ≡ step ∷ [] → MayTouch 0 4096 step
 step_may_touch before line number step a e = by_command (MayTouch 0 4096) before line number step
-    (λ accesses h. accesses_inside (buffer_size before) number number 0 accesses (size_small before a.1) h) (stay number number 0) a.0 e
+    (λ accesses h. accesses_inside (buffer_size before) number (number + 1) 0 accesses (size_small before a.1) h) (stay number (number + 1) 0) a.0 e
 
 -- the usages have names
 
@@ -272,7 +272,7 @@ accesses_named at number pos (a ∷ accesses) = All-cons (λ (b : Access). HasNa
 
 pub step_has_names : (before : List Line) (line : Line) (number : ℕ) (step : Step) → IsAccepted (line ∷ before) → bound_steps number (command_of line) ≡ step ∷ [] → HasNames step
 step_has_names before line number step a e = by_command HasNames before line number step
-    (λ accesses h x on. All-contains (λ (b : Access). HasName b.what) _ x (accesses_named number number 0 accesses) on)
+    (λ accesses h x on. All-contains (λ (b : Access). HasName b.what) _ x (accesses_named number (number + 1) 0 accesses) on)
     (λ deps h x on. absurd (let c = subst (λ (xs : List Access). Contains xs x) (no_accesses number deps h) on in let l = c.1 in omega arith))
     a.0 e
 
@@ -298,9 +298,9 @@ some_is c d e = ap (λ (o : Option Command). unwrap_or o c) e
 one_lowered : (number : ℕ) (of : Line) (c : Command) (steps : List Step) → Some c ≡ command_of of → steps ≡ lower no_trace (here_at number) Outside c
     → (step : Step) × (steps ≡ step ∷ []) × (bound_steps number (command_of of) ≡ bound_step step ∷ [])
 one_lowered number (line.Work rec accesses) c steps is e =
-    (numbered_step number (Accesses (map (declared_access (here_at number)) accesses)), e ∙ ap (lower no_trace (here_at number) Outside) (some_is c (command.Work accesses) is), refl)
+    (numbered_step (number + 1) (Accesses (map (declared_access (here_at number)) accesses)), e ∙ ap (lower no_trace (here_at number) Outside) (some_is c (command.Work accesses) is), refl)
 one_lowered number (line.Barrier rec deps) c steps is e =
-    (numbered_step number (Groups (map (element_group (here_at number)) deps)), e ∙ ap (lower no_trace (here_at number) Outside) (some_is c (command.Barrier deps) is), refl)
+    (numbered_step (number + 1) (Groups (map (element_group (here_at number)) deps)), e ∙ ap (lower no_trace (here_at number) Outside) (some_is c (command.Barrier deps) is), refl)
 one_lowered number other c steps is e = absurd (let k = ap is_none is in true≢false (sym k))
 
 last_is : (new : List Step) (last step : Step) → new ++ last ∷ [] ≡ step ∷ [] → last ≡ step

@@ -3,4 +3,6 @@ pub mod LineByLine
 pub mod Replies
 pub mod BoundSteps
 pub mod LineLoop
+pub mod TraceOf
+pub mod WholeWork
 pub mod Answering

@@ -13,7 +13,7 @@ use Rattle.sv_space.specs.Steps.{IsNext}
 use Rattle.sv_space.specs.declared.space.Space.{Space}
 use Rattle.sv_app.specs.Accepted.{follows, comes_after, is_command, IsAccepted}
 use Rattle.sv_app.specs.Running.{HasNames}
-use Rattle.sv_app.specs.Work.{bound_steps, command_of, steps_of}
+use Rattle.sv_app.specs.Work.{bound_steps, command_of, no_groups, steps_of}
 use Rattle.sv_app.proofs.BoundSteps.{step_is_next, step_may_touch, step_has_names}
 
 -- there are at most 64 commands
@@ -96,7 +96,7 @@ pub may_touch : (space : Space) (before : List Line) (it : Line) (number : ℕ) 
 may_touch space before it number None a e res size = tt
 may_touch space before it number (Some step) a e res size = subst (λ (p : ℕ × ℕ). MayTouch p.0 p.1 step) (let q : (0, 4096) ≡ (space.res, size_of space) = cc in q) (step_may_touch before it number step a (sym e))
 
-pub is_next : (before : List Line) (it : Line) (number : ℕ) (step : Option Step) → IsAccepted (it ∷ before) → option_to_list step ≡ bound_steps number (command_of it) → IfSome step (λ s. IsNext number s × HasNames s)
+pub is_next : (before : List Line) (it : Line) (number : ℕ) (step : Option Step) → IsAccepted (it ∷ before) → option_to_list step ≡ bound_steps number (command_of it) → IfSome step (λ s. IsNext (number + 1) s × HasNames s)
 is_next before it number None a e = tt
 is_next before it number (Some step) a e = (step_is_next before it number step a (sym e), step_has_names before it number step a (sym e))
 
@@ -116,3 +116,17 @@ pub steps_with : (yielded : List Line) (it : Line) (number : ℕ) (step : Option
 steps_with yielded it number step e n =
     ap steps_of (one_line_more yielded it) ∙ steps_more (reverse yielded) it
     ∙ ap (λ (xs : List Step). steps_of (reverse yielded) ++ xs) (sym (e ∙ ap (λ k. bound_steps k (command_of it)) n))
+
+-- a step without groups
+
+pub no_groups_are_next : (number : ℕ) → IsNext number no_groups
+no_groups_are_next number = record {
+  numbered = record {
+    accesses = λ a on. absurd (let h = on.1 in omega arith);
+    groups = λ g on. absurd (let h = on.1 in omega arith);
+  };
+  positions = λ k d lt. absurd (omega arith);
+}
+
+pub no_groups_have_names : HasNames no_groups
+no_groups_have_names a on = absurd (let h = on.1 in omega arith)

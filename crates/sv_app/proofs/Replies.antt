@@ -21,6 +21,7 @@ use Rattle.sv_space.specs.Steps.{IsNext, AreInOrder}
 use Rattle.sv_space.specs.declared.space.Space.{Space}
 use Rattle.sv_space.proofs.GoingOn.{reports_go_on}
 use Rattle.sv_space.proofs.Joining.{spots_none, runs_none}
+use Rattle.sv_app.specs.Printed.{AreReportsOf}
 use Rattle.sv_app.specs.Running.{HasNames, IsNamed, IsRunOf}
 
 spots_append : (old more : List Report) → spots_of (old ++ more) ≡ spots_of old ++ spots_of more
@@ -93,6 +94,9 @@ names_go_on work step names has s on = elim (Contains-append_cases work (step �
 
 numbered_of : (work : List Step) → AreInOrder work → AreNumbered work
 numbered_of work steps k d lt = (steps k d lt).numbered
+
+pub reports_of_run : (space : Space) (reports : List Report) (work : List Step) → IsRunOf space reports work → AreReportsOf work reports
+reports_of_run space reports work is = record { numbered = numbered_of work is.stands.steps; reports = is.reports; runs = is.runs }
 
 -- the reports of the longer work, in greatest runs
 pub run_goes_on : (space after : Space) (old more all : List Report) (work : List Step) (step : Step) → IsRunOf space old work → IsNext (length work) step → HasNames step

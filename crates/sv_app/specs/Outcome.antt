@@ -1,5 +1,5 @@
 -- What a text comes to: the lines that are accepted, or the least bad line.
-use Rattle.std.specs.Prelude.{◌≡◌, ℕ, ◌+◌, List, [], ◌∷◌, Option, None, Some, Result, Ok, Err, if◌then◌else◌, ⊤}
+use Rattle.std.specs.Prelude.{◌≡◌, ℕ, ◌+◌, ◌<◌, ◌⊎◌, Bool, true, false, List, [], Option, None, Some, Result, Ok, Err, if◌then◌else◌, filter, length, map, reverse, slice_index_or, take}
 use Rattle.sv_model.specs.declared.line.Line.{Line}
 use Rattle.sv_model.specs.declared.line.Line.TheVariants as line
 use Rattle.sv_model.specs.declared.refusal.Cause.{Cause}
@@ -10,46 +10,63 @@ use Rattle.sv_app.specs.Accepted.{follows, is_open}
 use Rattle.sv_app.specs.declared.outcome.Reason.{Reason}
 use Rattle.sv_app.specs.declared.outcome.Reason.TheVariants.{BadJson, NotBuilt, Unfinished}
 use Rattle.sv_app.specs.declared.outcome.Rejected.{Rejected}
-use Rattle.sv_app.specs.declared.outcome.Stop.{Stop}
-use Rattle.sv_app.specs.declared.outcome.Stop.TheVariants as stop
 
--- a line that reads as JSON is the next of the accepted ones, blank, or not built
-abbrev pub next_line : List Line → Line → Result (List Line) Reason
-next_line before line.Blank = Ok before
-next_line before line = if follows before line then Ok (line ∷ before) else Err NotBuilt
+abbrev pub is_written : Line → Bool
+is_written line.Blank = false
+is_written other = true
 
--- the accepted lines, newest first, after one more line with this cause
-abbrev pub after_line : List Line → Option Cause → Line → Result (List Line) Reason
-after_line before None line = next_line before line
-after_line before (Some cause.BadJson) line = Err BadJson
-after_line before (Some other) line = Err NotBuilt
+-- what these lines of a text say, newest first and without the blank ones
+unfoldable pub written : List (List ℕ) → List Line
+written lines = reverse (filter is_written (map line_of lines))
 
--- at the end of the text no recording is open
-abbrev pub at_end : ℕ → List Line → Result (List Line) Rejected
-at_end number before = if is_open before then Err (record { line = number; reason = Unfinished }) else Ok before
+-- a line that reads as JSON and is not blank is one that may come next, or not built
+abbrev pub place_reason : List Line → Line → Option Reason
+place_reason before line.Blank = None
+place_reason before line = if follows before line then None else Some NotBuilt
 
--- on with the accepted lines, or the line of this number is the least bad one
-abbrev pub or_rejected : ℕ → (List Line → Result (List Line) Rejected) → Result (List Line) Reason → Result (List Line) Rejected
-or_rejected number on (Ok accepted) = on accepted
-or_rejected number on (Err reason) = Err (record { line = number; reason = reason })
+-- why a line with this cause is refused after these
+abbrev pub reason_after : List Line → Option Cause → Line → Option Reason
+reason_after before None line = place_reason before line
+reason_after before (Some cause.BadJson) line = Some BadJson
+reason_after before (Some other) line = Some NotBuilt
 
--- the lines from this number on, after the accepted ones
-unfoldable pub outcome_from : ℕ → List Line → List (List ℕ) → Result (List Line) Rejected
-outcome_from number before [] = at_end number before
-outcome_from number before (bytes ∷ rest) = or_rejected number (λ accepted. outcome_from (number + 1) accepted rest) (after_line before (line_cause bytes) (line_of bytes))
+-- why a line is refused after the lines before it
+abbrev pub reason_of : List Line → List ℕ → Option Reason
+reason_of before bytes = reason_after before (line_cause bytes) (line_of bytes)
 
--- the accepted lines of a text, newest first, or its least bad line
-abbrev pub outcome_of : List ℕ → Result (List Line) Rejected
-outcome_of text = outcome_from 1 [] (lines_of text)
+-- why the line at this place of the text is refused; places count from 0
+unfoldable pub reason_at : List (List ℕ) → ℕ → Option Reason
+reason_at lines place = reason_of (written (take place lines)) (slice_index_or lines place [])
 
--- what is answered is the outcome; want of memory says nothing
-abbrev pub Gives : Result (List Line) Rejected → Result (List Line) Stop → Type 0
-Gives outcome (Ok accepted) = outcome ≡ Ok accepted
-Gives outcome (Err (stop.Rejected rejected)) = outcome ≡ Err rejected
-Gives outcome (Err stop.Memory) = ⊤
+-- no line before this place is refused
+abbrev pub NoneBefore : List (List ℕ) → ℕ → Type 0
+NoneBefore lines place = (earlier : ℕ) → earlier < place → reason_at lines earlier ≡ None
 
--- the same of one line
-abbrev pub Steps : Result (List Line) Reason → ℕ → List Line → Result ⊤ Stop → Type 0
-Steps step number new (Ok u) = step ≡ Ok new
-Steps step number new (Err (stop.Rejected rejected)) = (step ≡ Err rejected.reason) × (rejected.line ≡ number)
-Steps step number new (Err stop.Memory) = ⊤
+-- the least line that is refused, and why
+pub record IsLeastBad (lines : List (List ℕ)) (rejected : Rejected) : Type 0 where
+  pub place : ℕ
+  pub inside : place < length lines
+  pub number : rejected.line ≡ place + 1
+  pub reason : reason_at lines place ≡ Some rejected.reason
+  pub least : NoneBefore lines place
+
+-- no line is refused, and a recording is open at the end: this counts as one more line
+pub record IsLeftOpen (lines : List (List ℕ)) (rejected : Rejected) : Type 0 where
+  pub good : NoneBefore lines (length lines)
+  pub left : is_open (written lines) ≡ true
+  pub number : rejected.line ≡ length lines + 1
+  pub reason : rejected.reason ≡ Unfinished
+
+-- no line is refused, no recording is open at the end, and this is what the lines say, newest first
+pub record AreAccepted (lines : List (List ℕ)) (accepted : List Line) : Type 0 where
+  pub good : NoneBefore lines (length lines)
+  pub closed : is_open (written lines) ≡ false
+  pub said : accepted ≡ written lines
+
+-- what a text of these lines comes to
+abbrev pub IsOutcome : List (List ℕ) → Result (List Line) Rejected → Type 0
+IsOutcome lines (Ok accepted) = AreAccepted lines accepted
+IsOutcome lines (Err rejected) = IsLeastBad lines rejected ⊎ IsLeftOpen lines rejected
+
+abbrev pub IsOutcomeOf : List ℕ → Result (List Line) Rejected → Type 0
+IsOutcomeOf text outcome = IsOutcome (lines_of text) outcome

@@ -1,5 +1,5 @@
--- The work of an accepted text: the steps of its recording, submitted by event 1 as the first of its batch.
-use Rattle.std.specs.Prelude.{ℕ, List, [], ◌∷◌, ◌++◌, Option, Some, None, map, length}
+-- The work of an accepted text, line by line: the steps of its recording, submitted by event 1 as the first of its batch.
+use Rattle.std.specs.Prelude.{ℕ, ◌+◌, List, [], ◌∷◌, ◌++◌, Option, Some, None, map, length}
 use Rattle.sv_model.specs.Compile.{plain_steps}
 use Rattle.sv_model.specs.Numbering.{numbered_steps}
 use Rattle.sv_model.specs.declared.line.Line.{Line}
@@ -13,9 +13,9 @@ use Rattle.sv_model.specs.declared.work.Place.{Place}
 use Rattle.sv_model.specs.declared.work.Step.{Step}
 use Rattle.sv_model.specs.declared.work.Step.TheVariants.{Accesses, Groups}
 
--- where the recording's command of this number stands: its step has the same number
+-- where the recording's command of this number stands: the step of the batch's waits comes before it
 abbrev pub here_at : ℕ → Here
-here_at number = record { rec = 0; family = 0; cmd = number; step = number; instance = 0; subpass = None }
+here_at number = record { rec = 0; family = 0; cmd = number; step = number + 1; instance = 0; subpass = None }
 
 abbrev pub submitted : Place → Place
 submitted place = record { event = 1; batch = 0; slot = 0; rec = place.rec; cmd = place.cmd }
@@ -37,12 +37,24 @@ command_of (line.Work rec accesses) = Some (command.Work accesses)
 command_of (line.Barrier rec deps) = Some (command.Barrier deps)
 command_of other = None
 
--- the bound steps of a line, of which the first has this number
+-- the bound steps of the command of this number, if there is one
 abbrev pub bound_steps : ℕ → Option Command → List Step
 bound_steps number None = []
-bound_steps number (Some c) = map bound_step (numbered_steps number (plain_steps (here_at number) c))
+bound_steps number (Some c) = map bound_step (numbered_steps (number + 1) (plain_steps (here_at number) c))
 
--- the steps of these lines, newest first
+-- the steps of the commands of these lines, newest first
 unfoldable pub steps_of : List Line → List Step
 steps_of [] = []
 steps_of (line ∷ before) = steps_of before ++ bound_steps (length (steps_of before)) (command_of line)
+
+-- the step of a batch without waits, or without signals
+abbrev pub no_groups : Step
+no_groups = Groups []
+
+-- the steps so far of a batch whose commands so far are those of these lines
+abbrev pub begun_work : List Line → List Step
+begun_work lines = no_groups ∷ steps_of lines
+
+-- the steps of the whole batch
+abbrev pub batch_work : List Line → List Step
+batch_work lines = begun_work lines ++ no_groups ∷ []

@@ -5,7 +5,8 @@ ghost use Rattle.sv_model.specs.declared.work.Report.{Report};
 ghost use Rattle.sv_report.specs.Lines.{report_line};
 ghost use Rattle.sv_app.specs.Accepted.{IsAccepted};
 ghost use Rattle.sv_app.specs.Running.{IsNamed};
-ghost use Rattle.sv_app.specs.Answer.{IsAnswerOf, IsAnswerTo, IsReply, event_count, event_lines, events_counted, events_to, has_submit, reason_text, rejected_line, status_of, work_of};
+ghost use Rattle.sv_app.specs.Answer.{IsAnswerOf, IsAnswerTo, reason_text, rejected_line};
+ghost use Rattle.sv_app.specs.Printed.{AreReportsAfter, event_count, event_lines, events_counted, events_to, has_submit, printed, printed_status};
 ghost use Rattle.sv_model.specs.declared.line.Line.{Line};
 
 use crate::Status;
@@ -51,7 +52,7 @@ fn push_reports(text: &mut String, reports: &[Report]) -> Result<(), AllocError>
 }
 
 // Appends the lines of the events of a text that ends with this line.
-#[tactic(auto, unfolding(crate::specs::Answer::events_to))]
+#[tactic(auto, unfolding(crate::specs::Printed::events_to))]
 fn push_events_to(text: &mut String, newest: &Line) -> Result<(), AllocError>
     ensures { OnOk result (string_bytes text.new ≡ string_bytes text.old ++ events_to newest.now) }
 {
@@ -106,7 +107,7 @@ fn has_submit(lines: &[Line]) -> bool
 // The reports of the work.
 fn reports_of(alloc: Global, lines: Vec<Line>) -> Result<List<Report>, AllocError>
     requires { IsAccepted (reverse lines.items) }
-    ensures reply { IfOk result (λ it. IsReply (work_of (reverse lines.items)) it) }
+    ensures reports { IfOk result (AreReportsAfter (has_submit (reverse lines.items)) (reverse lines.items)) }
     ensures names { IfOk result (λ it. (r : Report) → Contains it r → IsNamed r) }
 {
     if has_submit(lines.as_slice()) {
@@ -117,7 +118,7 @@ fn reports_of(alloc: Global, lines: Vec<Line>) -> Result<List<Report>, AllocErro
 }
 
 fn status_of(reports: &[Report]) -> Status
-    ensures { result ≡ status_of reports.now }
+    ensures { result ≡ printed_status reports.now }
 {
     if reports.is_empty() {
         Status::Clean
@@ -126,11 +127,12 @@ fn status_of(reports: &[Report]) -> Status
     }
 }
 
-// The answer to accepted lines.
-#[tactic(auto, unfolding(crate::specs::Answer::text_of))]
-fn accepted_answer(alloc: Global, lines: Vec<Line>) -> Result<(Status, Vec<u8>), AllocError>
+// The text of accepted lines, and the status.
+#[tactic(auto, unfolding(crate::specs::Printed::printed))]
+fn print_lines(alloc: Global, lines: Vec<Line>) -> Result<(Status, String), AllocError>
     requires { IsAccepted (reverse lines.items) }
-    ensures { IfOk result (λ it. IsAnswerOf (Ok (reverse lines.items)) it.0 it.1.items) }
+    ensures { IfOk result (λ it. (reports : List Report) × AreReportsAfter (has_submit (reverse lines.items)) (reverse lines.items) reports
+        × (it.0 ≡ printed_status reports) × (string_bytes it.1 ≡ printed (reverse lines.items) reports)) }
 {
     let mut text = String::new(alloc);
     push_events(&mut text, lines.as_slice())?;
@@ -138,7 +140,16 @@ fn accepted_answer(alloc: Global, lines: Vec<Line>) -> Result<(Status, Vec<u8>),
     let reports = reports_of(alloc, lines)?;
     push_reports(&mut text, reports.as_slice())?;
     push_total(&mut text, u128::from(events), reports.len() as u128, 0, 0)?;
-    Ok((status_of(reports.as_slice()), text.into_bytes()))
+    Ok((status_of(reports.as_slice()), text))
+}
+
+// The answer to accepted lines.
+fn accepted_answer(alloc: Global, lines: Vec<Line>) -> Result<(Status, Vec<u8>), AllocError>
+    requires { IsAccepted (reverse lines.items) }
+    ensures { IfOk result (λ it. IsAnswerOf (Ok (reverse lines.items)) it.0 it.1.items) }
+{
+    let (status, text) = print_lines(alloc, lines)?;
+    Ok((status, text.into_bytes()))
 }
 
 /// The answer to the bytes of a text: what is written, and the status.

@@ -1,9 +1,10 @@
 // What a text comes to.
-ghost use Rattle.std.specs.Prelude.{◌≡◌, ◌<◌, ◌+◌, ◌^◌, [], List, ℕ, map};
+ghost use Rattle.std.specs.Prelude.{◌≡◌, ◌<◌, ◌+◌, ◌^◌, List, Some, map};
 ghost use Rattle.sv_model.specs.declared.line.Line.{Line};
 ghost use Rattle.sv_trace.specs.Text.{lines_of};
-ghost use Rattle.sv_trace.specs.Reading.{line_cause, line_of};
-ghost use Rattle.sv_app.specs.Outcome.{next_line, after_line, at_end, outcome_from, outcome_of, Gives, Steps};
+ghost use Rattle.sv_trace.specs.Reading.{line_of};
+ghost use Rattle.sv_app.specs.Outcome.{place_reason, reason_after, reason_of};
+ghost use Rattle.sv_app.specs.Taking.{Ends, Takes, Tells};
 
 use crate::accepted::Accepted;
 use std::alloc::{AllocError, Global};
@@ -41,7 +42,7 @@ fn stop_at(line: u64, reason: Reason) -> Stop
 
 // Takes a line that reads as JSON, where it is the next one.
 fn take_line(accepted: &mut Accepted, line: Line, number: u64) -> Result<(), Stop>
-    ensures { Steps (next_line accepted.old line) number accepted.new result }
+    ensures { Takes accepted.old line (place_reason accepted.old line) number accepted.new result }
 {
     if let Line::Blank = &line {
         return Ok(());
@@ -57,7 +58,7 @@ fn take_line(accepted: &mut Accepted, line: Line, number: u64) -> Result<(), Sto
 
 // The reason of a line that is refused for this cause.
 fn reason_of(cause: Cause) -> Reason
-    ensures { (before : List Line) (line : Line) → after_line before (Some cause) line ≡ Err result }
+    ensures { (before : List Line) (line : Line) → reason_after before (Some cause) line ≡ Some result }
 {
     match cause {
         Cause::BadJson => Reason::BadJson,
@@ -67,7 +68,7 @@ fn reason_of(cause: Cause) -> Reason
 
 // One more line of the text.
 fn take_bytes(alloc: Global, accepted: &mut Accepted, bytes: &[u8], number: u64) -> Result<(), Stop>
-    ensures { Steps (after_line accepted.old (line_cause bytes.now) (line_of bytes.now)) number accepted.new result }
+    ensures { Takes accepted.old (line_of bytes.now) (reason_of accepted.old bytes.now) number accepted.new result }
 {
     match read_line(alloc, bytes, number) {
         Ok(line) => take_line(accepted, line, number),
@@ -79,7 +80,7 @@ fn take_bytes(alloc: Global, accepted: &mut Accepted, bytes: &[u8], number: u64)
 // The end of the text, which has so many lines.
 fn finish(accepted: Accepted, lines: u64) -> Result<Accepted, Stop>
     requires { lines < 2 ^ 63 }
-    ensures { Gives (at_end (lines + 1) accepted) result }
+    ensures { Ends accepted (lines + 1) result }
 {
     if accepted.is_open() {
         Err(stop_at(lines + 1, Reason::Unfinished))
@@ -89,7 +90,7 @@ fn finish(accepted: Accepted, lines: u64) -> Result<Accepted, Stop>
 }
 
 fn take_lines(alloc: Global, lines: &[&[u8]]) -> Result<Accepted, Stop>
-    ensures { Gives (outcome_from 1 [] (map (λ x. x.now) lines.now)) result }
+    ensures { Tells (map (λ x. x.now) lines.now) result }
 {
     let mut accepted = Accepted::new(alloc);
     for (index, bytes) in lines.iter().enumerate() {
@@ -102,7 +103,7 @@ fn take_lines(alloc: Global, lines: &[&[u8]]) -> Result<Accepted, Stop>
 
 /// The accepted lines of a text, or its least bad line.
 pub fn read_text(alloc: Global, text: &[u8]) -> Result<Accepted, Stop>
-    ensures { Gives (outcome_of text.now) result }
+    ensures { Tells (lines_of text.now) result }
 {
     match cut_lines(alloc, text) {
         Ok(lines) => take_lines(alloc, lines.as_slice()),

@@ -1,14 +1,13 @@
 // The work of the accepted lines, from the first step to the last.
-ghost use Rattle.std.specs.Prelude.{◌≡◌, ◌∷◌, ◌++◌, ◌+◌, ◌<◌, ◌^◌, List, IfOk, IfSome, Contains, length, option_to_list, reverse};
-ghost use Rattle.sv_model.specs.Reports.{AreReports, spots_of};
+ghost use Rattle.std.specs.Prelude.{◌≡◌, ◌∷◌, ◌++◌, ◌+◌, ◌<◌, ◌^◌, [], List, IfOk, IfSome, OnOk, Contains, length, option_to_list, reverse};
 ghost use Rattle.sv_model.specs.declared.work.Report.{Report};
 ghost use Rattle.sv_model.specs.declared.work.Step.{Step};
-ghost use Rattle.sv_space.specs.Runs.{AreRuns};
 ghost use Rattle.sv_space.specs.Space.{MayTouch, size_of};
 ghost use Rattle.sv_space.specs.Steps.{IsNext};
 ghost use Rattle.sv_app.specs.Accepted.{IsAccepted};
+ghost use Rattle.sv_app.specs.Printed.{AreReportsOf};
 ghost use Rattle.sv_app.specs.Running.{HasNames, IsNamed, IsRunOf};
-ghost use Rattle.sv_app.specs.Work.{steps_of};
+ghost use Rattle.sv_app.specs.Work.{batch_work, no_groups};
 
 use crate::reply::take_step;
 use crate::steps::step_of_line;
@@ -21,7 +20,20 @@ use sv_space::Space;
 /// The most bytes of a buffer that is built.
 const LARGEST: usize = 4096;
 
-// Takes a step, if there is one, and gives the number of the next.
+// Takes the step of a batch that has no waits, or no signals.
+fn take_no_groups(
+    alloc: Global,
+    space: &mut Space,
+    reports: &mut List<Report>,
+) -> Result<(), AllocError>
+    ensures { OnOk result ((work : List Step) → IsRunOf space.old reports.old work
+        → IsRunOf space.new reports.new (work ++ no_groups ∷ [])) }
+{
+    let none = Step::Groups(List::new(alloc));
+    take_step(alloc, space, reports, &none)
+}
+
+// Takes the step of a command, if there is one, and gives the number of the next command.
 fn run_step(
     alloc: Global,
     space: &mut Space,
@@ -31,9 +43,9 @@ fn run_step(
 ) -> Result<u32, AllocError>
     requires touch { IfSome step (MayTouch space.old.res (size_of space.old)) }
     requires room { number + 1 < 2 ^ 32 }
-    ensures { IfOk result (λ next. (work : List Step) → number ≡ length work → IsRunOf space.old reports.old work
+    ensures { IfOk result (λ next. (work : List Step) → number + 1 ≡ length work → IsRunOf space.old reports.old work
         → IfSome step (λ s. IsNext (length work) s × HasNames s)
-        → IsRunOf space.new reports.new (work ++ option_to_list step) × (next ≡ length (work ++ option_to_list step))) }
+        → IsRunOf space.new reports.new (work ++ option_to_list step) × (next + 1 ≡ length (work ++ option_to_list step))) }
 {
     match step {
         None => Ok(number),
@@ -47,16 +59,17 @@ fn run_step(
 /// The reports of the work of these lines, in greatest runs.
 pub fn run_lines(alloc: Global, lines: Vec<Line>) -> Result<List<Report>, AllocError>
     requires { IsAccepted (reverse lines.items) }
-    ensures reports { IfOk result (λ reports. AreReports (steps_of (reverse lines.items)) (spots_of reports)) }
-    ensures runs { IfOk result AreRuns }
+    ensures reports { IfOk result (AreReportsOf (batch_work (reverse lines.items))) }
     ensures names { IfOk result (λ reports. (r : Report) → Contains reports r → IsNamed r) }
 {
     let mut space = Space::open(alloc, 0, LARGEST)?;
     let mut reports = List::new(alloc);
     let mut number = 0u32;
+    take_no_groups(alloc, &mut space, &mut reports)?;
     for line in lines {
         let step = step_of_line(alloc, line, number)?;
         number = run_step(alloc, &mut space, &mut reports, number, step)?;
     }
+    take_no_groups(alloc, &mut space, &mut reports)?;
     Ok(reports)
 }

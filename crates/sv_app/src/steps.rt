@@ -9,7 +9,7 @@ use sv_model::line::{Command, Line};
 use sv_model::work::{Access, Group, Here, Place, Step};
 use sv_range::List;
 
-// Where the recording's command of this number stands.
+// Where the recording's command of this number stands. The step of the batch's waits comes before it.
 fn here_at(number: u32) -> Here
     ensures { result ≡ here_at number }
 {
@@ -17,7 +17,7 @@ fn here_at(number: u32) -> Here
         rec: 0,
         family: 0,
         cmd: number,
-        step: u64::from(number),
+        step: u64::from(number) + 1,
         instance: 0,
         subpass: None,
     }
@@ -99,7 +99,7 @@ fn command_of(line: Line) -> Option<Command>
     }
 }
 
-/// The bound step of a line with this number. None where the line is no command.
+/// The bound step of a line that is the command of this number. None where the line is no command.
 /// Fails only for want of memory.
 pub fn step_of_line(alloc: Global, line: Line, number: u32) -> Result<Option<Step>, AllocError>
     requires { IfSome (command_of line) IsPlain }

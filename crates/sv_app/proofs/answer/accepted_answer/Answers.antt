@@ -1,6 +1,8 @@
-use Rattle.std.proofs.Common.{List, Contains, subst}
-use Rattle.sv_model.specs.declared.work.Report.{Report}
+use Rattle.std.proofs.Common.{◌∙◌, reverse, ap}
+use Rattle.sv_app.proofs.Answering.{text_is}
 use Rattle.sv_app.proofs.answer.accepted_answer.Goals as goal
 
-pub push_reports-requires : goal.push_reports-requires
-push_reports-requires c = λ r on. c.in_ok-reports.ensures.names r (subst (λ (xs : List Report). Contains xs r) c.as_slice-3.ensures on)
+pub returns : goal.returns
+returns c =
+    let printed = c.in_ok-status.ensures in
+    text_is (reverse c.args.lines.items) printed.0 c.in_ok-status.status c.into_bytes.result.items c.requires printed.1 printed.2 (ap (λ v. v.items) c.into_bytes.ensures.value ∙ printed.3)
