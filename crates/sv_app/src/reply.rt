@@ -10,21 +10,11 @@ use sv_model::work::{Report, Step};
 use sv_range::List;
 use sv_space::Space;
 
-// Appends to a list.
-fn append(reports: &mut List<Report>, report: Report) -> Result<(), AllocError>
-    ensures { OnOk result (reports.new ≡ reports.old ++ report ∷ []) }
-{
-    match reports.push(report) {
-        Ok(()) => Ok(()),
-        Err(_) => Err(AllocError),
-    }
-}
-
 fn append_all(reports: &mut List<Report>, more: List<Report>) -> Result<(), AllocError>
     ensures { OnOk result (reports.new ≡ reports.old ++ more) }
 {
     for report in more.into_vec() {
-        append(reports, report)?;
+        reports.push_or_drop(report)?;
     }
     Ok(())
 }

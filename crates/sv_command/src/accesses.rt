@@ -7,7 +7,6 @@ ghost use Rattle.sv_model.specs.Numbering.{accesses_from};
 ghost use Rattle.sv_model.specs.Plain.{AccessFits};
 
 use crate::barriers::{area_of, place_of, subpass_of};
-use crate::push::push;
 use std::alloc::{AllocError, Global};
 use sv_mask::Usage;
 use sv_model::line::Declared;
@@ -54,7 +53,7 @@ pub fn accesses(
     let mut accesses = List::new(alloc);
     let mut pos = 0;
     for access in declared {
-        push(&mut accesses, declared_access(here, *access, pos))?;
+        accesses.push_or_drop(declared_access(here, *access, pos))?;
         pos += 1;
     }
     Ok(accesses)

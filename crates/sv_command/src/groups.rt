@@ -9,7 +9,6 @@ use crate::barriers::{
     area_of, dependency, halved, moving, old_of, opened, place_of, track_of, transfer_for,
     transition,
 };
-use crate::push::push;
 use std::alloc::{AllocError, Global};
 use sv_model::line::Element;
 use sv_model::work::{Dep, Group, Here, Old, Transfer};
@@ -30,12 +29,12 @@ fn group_with(
     let mut deps = List::new(alloc);
     let mut transitions = List::new(alloc);
     let mut olds = List::new(alloc);
-    push(&mut deps, opened(moving, halved(transfer, dep)))?;
+    deps.push_or_drop(opened(moving, halved(transfer, dep)))?;
     if let Some(old) = moving {
-        push(&mut transitions, transition(here, old, pos))?;
+        transitions.push_or_drop(transition(here, old, pos))?;
     }
     if let Some(old) = old {
-        push(&mut olds, old)?;
+        olds.push_or_drop(old)?;
     }
     Ok(Group {
         step: here.step,
@@ -87,7 +86,7 @@ pub fn groups(alloc: Global, elements: &[Element], here: Here) -> Result<List<Gr
     for element in elements {
         let group = element_group(alloc, here, *element, pos)?;
         pos += group.transitions.len() as u32;
-        push(&mut groups, group)?;
+        groups.push_or_drop(group)?;
     }
     Ok(groups)
 }

@@ -10,11 +10,9 @@ ghost use Rattle.sv_model.specs.Plain.{IsPlain};
 mod accesses;
 mod barriers;
 mod groups;
-mod push;
 #[cfg(test)]
 mod tests;
 
-use push::push;
 use std::alloc::{AllocError, Global};
 use sv_model::line::Command;
 use sv_model::work::{Here, Step};
@@ -55,6 +53,6 @@ pub fn lower(alloc: Global, command: &Command, here: &Here) -> Result<List<Step>
         },
         _ => return Ok(steps),
     };
-    push(&mut steps, step)?;
+    steps.push_or_drop(step)?;
     Ok(steps)
 }

@@ -3,7 +3,6 @@ ghost use Rattle.std.specs.Prelude.{◌≡◌, [], ◌∷◌, IfOk};
 ghost use Rattle.sv_model.specs.Plain.{ElementFits};
 
 use crate::lower;
-use crate::push::push;
 use std::alloc::{AllocError, Global};
 use std::test::Fail;
 use sv_mask::{Access16, AccessWord, Accesses, Layout, Stage, StageWord, Stages, Usage, Usages};
@@ -15,7 +14,7 @@ fn one<T: Drop>(alloc: Global, item: T) -> Result<List<T>, AllocError>
     ensures { IfOk result (λ items. items ≡ item ∷ []) }
 {
     let mut items = List::new(alloc);
-    push(&mut items, item)?;
+    items.push_or_drop(item)?;
     Ok(items)
 }
 

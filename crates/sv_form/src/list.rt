@@ -31,9 +31,7 @@ fn read_items<W: Whole>(alloc: Global, items: &[Value]) -> Result<Found<List<W::
     for item in items {
         let part = W::read(alloc, item)?;
         flaw = flaw.least(part.flaw);
-        if parts.push(part.value).is_err() {
-            return Err(AllocError);
-        }
+        parts.push_or_drop(part.value)?;
     }
     Ok(Found { flaw, value: parts })
 }

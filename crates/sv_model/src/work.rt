@@ -1,4 +1,7 @@
 //! The steps of a work, and what is said of them.
+ghost use Rattle.std.specs.Prelude.{◌≡◌};
+ghost use Rattle.sv_model.specs.Cells as cells;
+
 use sv_mask::{Layout, Stages, Usage, Usages};
 use sv_range::{Cells, List, Span};
 
@@ -27,6 +30,32 @@ pub enum Area {
 pub enum Cell {
     Byte { res: u32, at: u64 },
     Texel { res: u32, mip: u32, layer: u32 },
+}
+
+impl Area {
+    /// Whether the area holds the cell.
+    pub fn covers(self, cell: Cell) -> bool
+        ensures { result ≡ cells.covers self cell }
+    {
+        match self {
+            Area::Bytes { res, span } => match cell {
+                Cell::Byte { res: r, at } => res == r && (span.start <= at && at < span.end),
+                Cell::Texel { .. } => false,
+            },
+            Area::Image { res, cells } => match cell {
+                Cell::Byte { .. } => false,
+                Cell::Texel { res: r, mip, layer } => {
+                    let (mip_end, layer_end) = (
+                        u64::from(cells.mip) + u64::from(cells.mips),
+                        u64::from(cells.layer) + u64::from(cells.layers),
+                    );
+                    let in_mips = cells.mip <= mip && u64::from(mip) < mip_end;
+                    let in_layers = cells.layer <= layer && u64::from(layer) < layer_end;
+                    res == r && (in_mips && in_layers)
+                }
+            },
+        }
+    }
 }
 
 /// A dependency from a first scope to a second one (Vulkan 1.3, "Execution and Memory Dependencies").

@@ -5,7 +5,6 @@ mod extending;
 mod finding;
 mod recording;
 mod runs;
-mod same;
 mod space;
 
 pub use space::Space;

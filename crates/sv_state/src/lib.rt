@@ -4,7 +4,6 @@
 mod entry;
 mod mask;
 mod reached;
-mod same;
 mod set;
 mod state;
 #[cfg(test)]

@@ -2,7 +2,6 @@
 ghost use Rattle.std.specs.Prelude.{◌≡◌, ◌<◌, ◌+◌, ℕ, length, IsTrue, ◌↔◌, OnOk, IfSome};
 ghost use Rattle.std.specs.List.{HoldsAt};
 ghost use Rattle.sv_model.specs.Cells.{Within};
-ghost use Rattle.sv_model.specs.Cells as cells;
 ghost use Rattle.sv_model.specs.Chain.{Compatible, IsOn};
 ghost use Rattle.sv_model.specs.declared.work.Cell.{Cell};
 ghost use Rattle.sv_state.specs.Masks.{Adds, IsJoined, IsMaskOf, Joins, Leads, LeadsInto};
@@ -49,37 +48,13 @@ fn compatible(a: Track, b: Track) -> bool
     }
 }
 
-/// Whether the area holds the cell.
-fn covers(area: Area, cell: Cell) -> bool
-    ensures { result ≡ cells.covers area cell }
-{
-    match area {
-        Area::Bytes { res, span } => match cell {
-            Cell::Byte { res: r, at } => res == r && (span.start <= at && at < span.end),
-            Cell::Texel { .. } => false,
-        },
-        Area::Image { res, cells } => match cell {
-            Cell::Byte { .. } => false,
-            Cell::Texel { res: r, mip, layer } => {
-                let (mip_end, layer_end) = (
-                    cells.mip as u64 + cells.mips as u64,
-                    cells.layer as u64 + cells.layers as u64,
-                );
-                let in_mips = cells.mip <= mip && (mip as u64) < mip_end;
-                let in_layers = cells.layer <= layer && (layer as u64) < layer_end;
-                res == r && (in_mips && in_layers)
-            }
-        },
-    }
-}
-
 /// Whether what is limited to the range bears on the cell.
 pub fn within(range: Option<Area>, cell: Cell) -> bool
     ensures { IsTrue result ↔ Within range cell }
 {
     match range {
         None => true,
-        Some(area) => covers(area, cell),
+        Some(area) => area.covers(cell),
     }
 }
 

@@ -10,10 +10,10 @@ ghost use Rattle.sv_model.specs.declared.work.What.{What};
 ghost use Rattle.sv_state.specs.Masks.{Marked, mark_for, Shows, ShownTo, Stands, LeadsInto};
 
 use crate::mask::{Mask, add, add_all, is_on, leads_into, mask_of, within};
-use crate::same::same;
 use crate::set::{has_stage_of, has_usage};
 use std::alloc::{AllocError, Global};
 use sv_mask::{Usage, is_write};
+use sv_model::same::is_same_access;
 use sv_model::work::{Access, Cell, Dep, Group, What};
 
 /// What chains from one access reach: by the steps before the one that its state has come to, and
@@ -38,7 +38,7 @@ fn is_listed(accesses: &[Access], a: &Access) -> bool
     ensures { IsTrue result ↔ Contains accesses.now a.now }
 {
     for x in accesses {
-        if same(x, a) {
+        if is_same_access(x, a) {
             return true;
         }
     }

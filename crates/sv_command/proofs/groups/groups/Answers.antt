@@ -10,5 +10,5 @@ loop-element-preserved c =
     record {
       count = ap (λ (n : ℕ). c.loop-element.pos + n) c.len.ensures ∙ position_after (spec.element_group c.args.here) c.args.here.step c.args.elements.now c.loop-element.element-index _ c.loop-element.pos c.in_ok-group.group c.loop-element-test.true c.loop-element.invariant.count c.in_ok-group.ensures;
       few = omega arith;
-      made = groups_pushed (spec.element_group c.args.here) c.args.here.step c.args.elements.now c.loop-element.element-index _ c.loop-element.pos c.in_ok-group.group c.loop-element.groups _ c.loop-element-test.true c.loop-element.invariant.count c.in_ok-group.ensures c.loop-element.invariant.made c.in_ok-push.ensures;
+      made = groups_pushed (spec.element_group c.args.here) c.args.here.step c.args.elements.now c.loop-element.element-index _ c.loop-element.pos c.in_ok-group.group c.loop-element.groups _ c.loop-element-test.true c.loop-element.invariant.count c.in_ok-group.ensures c.loop-element.invariant.made c.in_ok-push_or_drop.ensures.ok;
     }
