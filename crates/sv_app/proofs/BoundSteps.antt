@@ -1,10 +1,11 @@
 -- The bound step of an accepted line: its number, where it may touch, and the names of its usages.
-use Rattle.std.proofs.Common.{ℕ, zero, suc, ◌≡◌, ◌<◌, ◌≤◌, ◌+◌, Bool, true, false, ◌&&◌, ◌==◌, cond, List, [], ◌∷◌, ◌++◌, ◌⊎◌, inl, inr, Option, None, Some, IfSome, is_some, is_none, nat_le, unwrap_or, map, length, get_or, length-append, refl, sym, ◌∙◌, ap, subst, arith, Contains, leb-true, ltb-true, eqb-true}
+use Rattle.std.proofs.Common.{ℕ, zero, suc, ◌≡◌, ◌<◌, ◌≤◌, ◌+◌, Bool, true, false, ◌&&◌, ◌==◌, cond, List, [], ◌∷◌, ◌++◌, Option, None, Some, IfSome, is_some, is_none, nat_le, nat_lt, count_by, unwrap_or, map, length, get_or, length-append, refl, sym, ◌∙◌, ap, subst, arith, Contains, leb-true, ltb-true, eqb-true}
 use Rattle.std.specs.List.{All, list_all, find, range_with_len}
 use Rattle.std.proofs.lemmas.Bool.{and_parts, true≢false}
 use Rattle.std.proofs.lemmas.List.Elements.{All-nil, All-cons, All-contains}
 use Rattle.sv_mask.specs.Usages.{usage_of, stage_number, access_number, is_pair}
 use Rattle.sv_model.specs.Barriers.{area_of, dependency, track_of, group_on, element_group}
+use Rattle.sv_model.specs.Declarations.{is_exclusive}
 use Rattle.sv_model.specs.Compile.{Scope, Outside, lower, declared_access}
 use Rattle.sv_model.specs.Numbering.{accesses_from, groups_from, numbered_step}
 use Rattle.sv_model.specs.Plain.{IsPlain, PartFits, AccessFits, ElementFits, TargetFits}
@@ -31,34 +32,38 @@ use Rattle.sv_report.specs.Pieces.{HasName}
 use Rattle.sv_space.specs.Steps.{IsNext, IsInside, AreInside, HaveNoTransitions}
 use Rattle.sv_space.specs.Space.{MayTouch}
 use Rattle.sv_space.proofs.CellByCell.{no_transitions}
-use Rattle.sv_app.specs.Accepted.{follows, comes_after, is_command, is_buffer, is_exclusive, is_built_command, is_built_declared, is_built_stage, is_built_access, is_built_pair, is_built_element, is_within, buffer_size, IsAccepted}
+use Rattle.sv_app.specs.Accepted.{follows, comes_after, is_command, is_buffer, is_built_command, is_built_declared, is_built_stage, is_built_access, is_built_pair, is_built_element, is_within, buffer_size, IsAccepted}
 use Rattle.sv_app.specs.Running.{HasNames}
 use Rattle.sv_app.specs.Work.{here_at, bound_access, bound_group, bound_step, bound_steps, command_of}
 
--- what may come after other lines is built
+-- what may come after other lines is built, and there is room for it
 
-after_work : (newest : Line) (before : List Line) (rec : ℕ) (accesses : List Declared) → comes_after newest before (line.Work rec accesses) ≡ true → is_built_command (buffer_size before) (line.Work rec accesses) ≡ true
-after_work (line.Begin r recorder family) before rec accesses h = (and_parts _ _ h).0
-after_work (line.Work r others) before rec accesses h = (and_parts _ _ h).0
-after_work (line.Barrier r others) before rec accesses h = (and_parts _ _ h).0
+after_work : (newest : Line) (before : List Line) (rec : ℕ) (accesses : List Declared) → comes_after newest before (line.Work rec accesses) ≡ true
+    → (is_built_command (buffer_size before) (line.Work rec accesses) ≡ true) × (nat_lt (count_by is_command before) 64 ≡ true)
+after_work (line.Begin r recorder family) before rec accesses h = and_parts _ _ h
+after_work (line.Work r others) before rec accesses h = and_parts _ _ h
+after_work (line.Barrier r others) before rec accesses h = and_parts _ _ h
 after_work other before rec accesses h = absurd (true≢false (sym h))
 
-after_barrier : (newest : Line) (before : List Line) (rec : ℕ) (deps : List Element) → comes_after newest before (line.Barrier rec deps) ≡ true → is_built_command (buffer_size before) (line.Barrier rec deps) ≡ true
-after_barrier (line.Begin r recorder family) before rec deps h = (and_parts _ _ h).0
-after_barrier (line.Work r others) before rec deps h = (and_parts _ _ h).0
-after_barrier (line.Barrier r others) before rec deps h = (and_parts _ _ h).0
+after_barrier : (newest : Line) (before : List Line) (rec : ℕ) (deps : List Element) → comes_after newest before (line.Barrier rec deps) ≡ true
+    → (is_built_command (buffer_size before) (line.Barrier rec deps) ≡ true) × (nat_lt (count_by is_command before) 64 ≡ true)
+after_barrier (line.Begin r recorder family) before rec deps h = and_parts _ _ h
+after_barrier (line.Work r others) before rec deps h = and_parts _ _ h
+after_barrier (line.Barrier r others) before rec deps h = and_parts _ _ h
 after_barrier other before rec deps h = absurd (true≢false (sym h))
 
 after_buffer : (newest : Line) (before : List Line) (res size : ℕ) (sharing : Sharing) → comes_after newest before (line.Buffer res size sharing) ≡ true → is_buffer (line.Buffer res size sharing) ≡ true
 after_buffer (line.Queue queue family lane) before res size sharing h = h
 after_buffer other before res size sharing h = absurd (true≢false (sym h))
 
-work_built : (before : List Line) (rec : ℕ) (accesses : List Declared) → follows before (line.Work rec accesses) ≡ true → is_built_command (buffer_size before) (line.Work rec accesses) ≡ true
+pub work_built : (before : List Line) (rec : ℕ) (accesses : List Declared) → follows before (line.Work rec accesses) ≡ true
+    → (is_built_command (buffer_size before) (line.Work rec accesses) ≡ true) × (nat_lt (count_by is_command before) 64 ≡ true)
 unfolding follows
 work_built [] rec accesses h = absurd (true≢false (sym h))
 work_built (newest ∷ before) rec accesses h = after_work newest (newest ∷ before) rec accesses h
 
-barrier_built : (before : List Line) (rec : ℕ) (deps : List Element) → follows before (line.Barrier rec deps) ≡ true → is_built_command (buffer_size before) (line.Barrier rec deps) ≡ true
+pub barrier_built : (before : List Line) (rec : ℕ) (deps : List Element) → follows before (line.Barrier rec deps) ≡ true
+    → (is_built_command (buffer_size before) (line.Barrier rec deps) ≡ true) × (nat_lt (count_by is_command before) 64 ≡ true)
 unfolding follows
 barrier_built [] rec deps h = absurd (true≢false (sym h))
 barrier_built (newest ∷ before) rec deps h = after_barrier newest (newest ∷ before) rec deps h
@@ -69,8 +74,8 @@ buffer_built [] res size sharing h = absurd (true≢false (sym h))
 buffer_built (newest ∷ before) res size sharing h = after_buffer newest (newest ∷ before) res size sharing h
 
 pub built_of : (before : List Line) (line : Line) → is_command line ≡ true → follows before line ≡ true → is_built_command (buffer_size before) line ≡ true
-built_of before (line.Work rec accesses) is h = work_built before rec accesses h
-built_of before (line.Barrier rec deps) is h = barrier_built before rec deps h
+built_of before (line.Work rec accesses) is h = (work_built before rec accesses h).0
+built_of before (line.Barrier rec deps) is h = (barrier_built before rec deps h).0
 built_of before other is h = absurd (true≢false (sym is))
 
 -- the parts of these tests
@@ -100,10 +105,10 @@ declared_ends : (size : ℕ) (a : Declared) → is_built_declared size a ≡ tru
 declared_ends size a h = ends_of_five (a.res == 0) (is_built_stage a.stage) (is_built_access a.access) (is_some (usage_of (stage_number a.stage) (access_number a.access))) (is_within size a.part) h
 
 work_parts : (before : List Line) (rec : ℕ) (accesses : List Declared) → follows before (line.Work rec accesses) ≡ true → (nat_le (length accesses) 64 ≡ true) × (list_all (is_built_declared (buffer_size before)) accesses ≡ true)
-work_parts before rec accesses h = second_of_three (rec == 0) (nat_le (length accesses) 64) (list_all (is_built_declared (buffer_size before)) accesses) (work_built before rec accesses h)
+work_parts before rec accesses h = second_of_three (rec == 0) (nat_le (length accesses) 64) (list_all (is_built_declared (buffer_size before)) accesses) (work_built before rec accesses h).0
 
 pub barrier_parts : (before : List Line) (rec : ℕ) (deps : List Element) → follows before (line.Barrier rec deps) ≡ true → (nat_le (length deps) 64 ≡ true) × (list_all is_built_element deps ≡ true)
-barrier_parts before rec deps h = second_of_three (rec == 0) (nat_le (length deps) 64) (list_all is_built_element deps) (barrier_built before rec deps h)
+barrier_parts before rec deps h = second_of_three (rec == 0) (nat_le (length deps) 64) (list_all is_built_element deps) (barrier_built before rec deps h).0
 
 -- the buffer has at most 4096 bytes
 pub size_small : (lines : List Line) → IsAccepted lines → buffer_size lines ≤ 4096
@@ -164,11 +169,6 @@ only_one a b e = ap (λ (xs : List Step). get_or xs 0 a) e
 
 not_none : (step : Step) → [] ≡ step ∷ [] → ⊥
 not_none step e = let k = ap length e in omega arith
-
-pub none_or_one : (number : ℕ) (line : Line) → (bound_steps number (command_of line) ≡ []) ⊎ ((step : Step) × (bound_steps number (command_of line) ≡ step ∷ []))
-none_or_one number (line.Work rec accesses) = inr (work_step number accesses, refl)
-none_or_one number (line.Barrier rec deps) = inr (barrier_step number deps, refl)
-none_or_one number other = inl refl
 
 -- what holds of the steps of the two commands holds of the step of a line
 by_command : (P : Step → Type 0) (before : List Line) (line : Line) (number : ℕ) (step : Step)

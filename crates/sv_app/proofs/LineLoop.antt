@@ -1,6 +1,6 @@
 -- The accepted lines one after another: their number, and the work and its reports so far.
 use Rattle.std.proofs.Common.{ℕ, suc, ◌≡◌, ◌<◌, ◌≤◌, ◌+◌, true, nat_lt, cond, List, [], ◌∷◌, ◌++◌, Option, Some, None, option_to_list, IfSome, length, length-append, count_by, reverse, refl, sym, ◌∙◌, ap, subst, arith, append-nil, append_assoc}
-use Rattle.std.proofs.lemmas.Bool.{and_parts, true≢false, leb-true}
+use Rattle.std.proofs.lemmas.Bool.{leb-true}
 use Rattle.std.proofs.lemmas.List.{reverse-append}
 use Rattle.std.proofs.lemmas.List.Sums.{sum_by-cons}
 use Rattle.sv_model.specs.declared.line.Declared.{Declared}
@@ -11,37 +11,21 @@ use Rattle.sv_model.specs.declared.work.Step.{Step}
 use Rattle.sv_space.specs.Space.{MayTouch, size_of}
 use Rattle.sv_space.specs.Steps.{IsNext}
 use Rattle.sv_space.specs.declared.space.Space.{Space}
-use Rattle.sv_app.specs.Accepted.{follows, comes_after, is_command, IsAccepted}
+use Rattle.sv_app.specs.Accepted.{follows, is_command, IsAccepted}
 use Rattle.sv_app.specs.Running.{HasNames}
 use Rattle.sv_app.specs.Work.{bound_steps, command_of, no_groups, steps_of}
-use Rattle.sv_app.proofs.BoundSteps.{step_is_next, step_may_touch, step_has_names}
+use Rattle.sv_app.proofs.BoundSteps.{barrier_built, work_built, step_is_next, step_may_touch, step_has_names}
 
 -- there are at most 64 commands
 
 below_64 : (n : ℕ) → nat_lt n 64 ≡ true → n < 64
 below_64 n h = let k : suc n ≤ 64 = leb-true (suc n) 64 h in omega arith
 
-after_work : (newest : Line) (before : List Line) (rec : ℕ) (accesses : List Declared) → comes_after newest before (line.Work rec accesses) ≡ true → nat_lt (count_by is_command before) 64 ≡ true
-after_work (line.Begin r recorder family) before rec accesses h = (and_parts _ _ h).1
-after_work (line.Work r others) before rec accesses h = (and_parts _ _ h).1
-after_work (line.Barrier r others) before rec accesses h = (and_parts _ _ h).1
-after_work other before rec accesses h = absurd (true≢false (sym h))
-
-after_barrier : (newest : Line) (before : List Line) (rec : ℕ) (deps : List Element) → comes_after newest before (line.Barrier rec deps) ≡ true → nat_lt (count_by is_command before) 64 ≡ true
-after_barrier (line.Begin r recorder family) before rec deps h = (and_parts _ _ h).1
-after_barrier (line.Work r others) before rec deps h = (and_parts _ _ h).1
-after_barrier (line.Barrier r others) before rec deps h = (and_parts _ _ h).1
-after_barrier other before rec deps h = absurd (true≢false (sym h))
-
 room_for_work : (before : List Line) (rec : ℕ) (accesses : List Declared) → follows before (line.Work rec accesses) ≡ true → count_by is_command before < 64
-unfolding follows
-room_for_work [] rec accesses h = absurd (true≢false (sym h))
-room_for_work (newest ∷ before) rec accesses h = below_64 (count_by is_command (newest ∷ before)) (after_work newest (newest ∷ before) rec accesses h)
+room_for_work before rec accesses h = below_64 (count_by is_command before) (work_built before rec accesses h).1
 
 room_for_barrier : (before : List Line) (rec : ℕ) (deps : List Element) → follows before (line.Barrier rec deps) ≡ true → count_by is_command before < 64
-unfolding follows
-room_for_barrier [] rec deps h = absurd (true≢false (sym h))
-room_for_barrier (newest ∷ before) rec deps h = below_64 (count_by is_command (newest ∷ before)) (after_barrier newest (newest ∷ before) rec deps h)
+room_for_barrier before rec deps h = below_64 (count_by is_command before) (barrier_built before rec deps h).1
 
 counted : (it : Line) (before : List Line) → count_by is_command (it ∷ before) ≡ cond (is_command it) 1 0 + count_by is_command before
 counted it before = sum_by-cons (λ (x : Line). cond (is_command x) 1 0) it before

@@ -4,6 +4,7 @@ use Rattle.std.specs.List.{flat_map, range_with_len}
 use Rattle.std.proofs.lemmas.Grind.{flat_map-append}
 use Rattle.std.proofs.lemmas.List.Elements.{All-append, All-contains, Contains-append_cases}
 use Rattle.sv_report.specs.Pieces.{HasName}
+use Rattle.sv_report.specs.Replies.{ReportHasNames}
 use Rattle.sv_model.specs.Cells.{covers, cells_of}
 use Rattle.sv_model.specs.Reports.{Spot, spots, spots_of, story_of, accesses_of, AreNumbered, AreReports, AreReportsFrom, IsRun, Joins, AreApart}
 use Rattle.sv_model.proofs.Lists.{in_first, in_cons, in_cons_cases, in_filter, in_flat_map, from_flat_map}
@@ -22,7 +23,7 @@ use Rattle.sv_space.specs.declared.space.Space.{Space}
 use Rattle.sv_space.proofs.GoingOn.{reports_go_on}
 use Rattle.sv_space.proofs.Joining.{spots_none, runs_none}
 use Rattle.sv_app.specs.Printed.{AreReportsOf}
-use Rattle.sv_app.specs.Running.{HasNames, IsNamed, IsRunOf}
+use Rattle.sv_app.specs.Running.{HasNames, IsRunOf}
 
 spots_append : (old more : List Report) → spots_of (old ++ more) ≡ spots_of old ++ spots_of more
 unfolding spots_of
@@ -128,14 +129,11 @@ has_name work names cell a on =
     names r.0 r.1 a r.2
 
 -- the accesses of a report are accesses of the work
-pub reports_named : (space : Space) (reports : List Report) (work : List Step) → IsRunOf space reports work → (r : Report) → Contains reports r → IsNamed r
+pub reports_named : (space : Space) (reports : List Report) (work : List Step) → IsRunOf space reports work → (r : Report) → Contains reports r → ReportHasNames r
 reports_named space reports work is r on =
     let s = some_spot reports is.runs r on in
     let d = (is.reports.only (spot_at r s.0) s.1).reported in
-    record {
-      later = has_name work is.names s.0 r.later d.listed;
-      earlier = has_name work is.names s.0 r.earlier d.partner.races.on_cell;
-    }
+    (has_name work is.names s.0 r.later d.listed, has_name work is.names s.0 r.earlier d.partner.races.on_cell)
 
 nothing_yet : AreReports [] []
 nothing_yet = record {

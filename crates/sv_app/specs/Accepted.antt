@@ -9,6 +9,7 @@ use Rattle.sv_mask.specs.Usages.{usage_of, stage_number, access_number}
 use Rattle.sv_mask.specs.Scopes.{supported}
 use Rattle.sv_mask.specs.declared.stage.StageWord.{StageWord}
 use Rattle.sv_mask.specs.declared.access.AccessWord.{AccessWord}
+use Rattle.sv_model.specs.Declarations.{is_exclusive}
 use Rattle.sv_model.specs.declared.line.Line.{Line}
 use Rattle.sv_model.specs.declared.line.Line.TheVariants as line
 use Rattle.sv_model.specs.declared.line.Declared.{Declared}
@@ -16,16 +17,10 @@ use Rattle.sv_model.specs.declared.line.Element.{Element}
 use Rattle.sv_model.specs.declared.line.Batch.{Batch}
 use Rattle.sv_model.specs.declared.line.Part.{Part}
 use Rattle.sv_model.specs.declared.line.Part.TheVariants.{Bytes, Image}
-use Rattle.sv_model.specs.declared.line.Sharing.{Sharing}
-use Rattle.sv_model.specs.declared.line.Sharing.TheVariants.{Exclusive, Concurrent}
 
 abbrev pub is_queue : Line → Bool
 is_queue (line.Queue queue family lane) = queue == 0 && family == 0 && lane == 0
 is_queue other = false
-
-abbrev pub is_exclusive : Sharing → Bool
-is_exclusive Exclusive = true
-is_exclusive Concurrent = false
 
 abbrev pub is_buffer : Line → Bool
 is_buffer (line.Buffer res size sharing) = res == 0 && nat_le 1 size && nat_le size 4096 && is_exclusive sharing

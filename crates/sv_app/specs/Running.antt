@@ -19,11 +19,6 @@ largest = 4096
 abbrev pub HasNames : Step → Type 0
 HasNames step = (a : Access) → Contains (accesses_of step) a → HasName a.what
 
--- the accesses of a report have usages with names
-pub record IsNamed (r : Report) : Type 0 where
-  pub later : HasName r.later.what
-  pub earlier : HasName r.earlier.what
-
 -- the space stands for the work, and these are all its reports, in greatest runs
 pub record IsRunOf (it : Space) (rs : List Report) (work : List Step) : Type 0 where
   pub stands : IsSpaceOf it work

@@ -3,8 +3,8 @@ ghost use Rattle.std.specs.Prelude.{◌≡◌, ◌++◌, ◌<◌, ◌^◌, List,
 ghost use Rattle.std.specs.List.{flat_map};
 ghost use Rattle.sv_model.specs.declared.work.Report.{Report};
 ghost use Rattle.sv_report.specs.Lines.{report_line};
+ghost use Rattle.sv_report.specs.Replies.{ReportHasNames};
 ghost use Rattle.sv_app.specs.Accepted.{IsAccepted};
-ghost use Rattle.sv_app.specs.Running.{IsNamed};
 ghost use Rattle.sv_app.specs.Answer.{IsAnswerOf, IsAnswerTo, reason_text, rejected_line};
 ghost use Rattle.sv_app.specs.Printed.{AreReportsAfter, event_count, event_lines, events_counted, events_to, has_submit, printed, printed_status};
 ghost use Rattle.sv_model.specs.declared.line.Line.{Line};
@@ -42,7 +42,7 @@ fn rejected_text(alloc: Global, rejected: &Rejected) -> Result<String, AllocErro
 
 // Appends the lines of the reports.
 fn push_reports(text: &mut String, reports: &[Report]) -> Result<(), AllocError>
-    requires { (r : Report) → Contains reports.now r → IsNamed r }
+    requires { (r : Report) → Contains reports.now r → ReportHasNames r }
     ensures { OnOk result (string_bytes text.new ≡ string_bytes text.old ++ flat_map report_line reports.now) }
 {
     for report in reports {
@@ -108,7 +108,7 @@ fn has_submit(lines: &[Line]) -> bool
 fn reports_of(alloc: Global, lines: Vec<Line>) -> Result<List<Report>, AllocError>
     requires { IsAccepted (reverse lines.items) }
     ensures reports { IfOk result (AreReportsAfter (has_submit (reverse lines.items)) (reverse lines.items)) }
-    ensures names { IfOk result (λ it. (r : Report) → Contains it r → IsNamed r) }
+    ensures names { IfOk result (λ it. (r : Report) → Contains it r → ReportHasNames r) }
 {
     if has_submit(lines.as_slice()) {
         run_lines(alloc, lines)

@@ -2,11 +2,12 @@
 ghost use Rattle.std.specs.Prelude.{◌≡◌, ◌∷◌, ◌++◌, ◌+◌, ◌<◌, ◌^◌, [], List, IfOk, IfSome, OnOk, Contains, length, option_to_list, reverse};
 ghost use Rattle.sv_model.specs.declared.work.Report.{Report};
 ghost use Rattle.sv_model.specs.declared.work.Step.{Step};
+ghost use Rattle.sv_report.specs.Replies.{ReportHasNames};
 ghost use Rattle.sv_space.specs.Space.{MayTouch, size_of};
 ghost use Rattle.sv_space.specs.Steps.{IsNext};
 ghost use Rattle.sv_app.specs.Accepted.{IsAccepted};
 ghost use Rattle.sv_app.specs.Printed.{AreReportsOf};
-ghost use Rattle.sv_app.specs.Running.{HasNames, IsNamed, IsRunOf};
+ghost use Rattle.sv_app.specs.Running.{HasNames, IsRunOf};
 ghost use Rattle.sv_app.specs.Work.{batch_work, no_groups};
 
 use crate::reply::take_step;
@@ -60,7 +61,7 @@ fn run_step(
 pub fn run_lines(alloc: Global, lines: Vec<Line>) -> Result<List<Report>, AllocError>
     requires { IsAccepted (reverse lines.items) }
     ensures reports { IfOk result (AreReportsOf (batch_work (reverse lines.items))) }
-    ensures names { IfOk result (λ reports. (r : Report) → Contains reports r → IsNamed r) }
+    ensures names { IfOk result (λ reports. (r : Report) → Contains reports r → ReportHasNames r) }
 {
     let mut space = Space::open(alloc, 0, LARGEST)?;
     let mut reports = List::new(alloc);

@@ -28,6 +28,18 @@ const END: &str = "{\"op\":\"end\",\"rec\":0}\n";
 
 const SUBMIT: &str = "{\"op\":\"submit\",\"lane\":0,\"queue\":0,\"batches\":[{\"recs\":[0]}]}\n";
 
+const WRITE_THEN_READ: &[&str] = &[
+    QUEUE,
+    BUFFER,
+    BEGIN,
+    WORK,
+    COPY_WRITES,
+    WORK,
+    COPY_READS,
+    END,
+    SUBMIT,
+];
+
 const PUBLISHED: &str = "event 0 recorder 0 publish rec 0\n";
 
 const SUBMITTED: &str = "event 1 lane 0 call 0 submit queue 0\n";
@@ -82,17 +94,7 @@ fn ran(alloc: Global, words: &[&str], text: Vec<u8>) -> Result<(u8, Vec<u8>), Al
 fn answers_texts(rt: HostRuntime) -> Result<(), Fail> {
     let table: [(&[&str], u8, &[&str]); 9] = [
         (
-            &[
-                QUEUE,
-                BUFFER,
-                BEGIN,
-                WORK,
-                COPY_WRITES,
-                WORK,
-                COPY_READS,
-                END,
-                SUBMIT,
-            ],
+            WRITE_THEN_READ,
             1,
             &[PUBLISHED, SUBMITTED, READS_AT_1, AFTER_THE_WRITE, ONE_OF_2],
         ),
@@ -206,16 +208,11 @@ fn other_words_are_usage(rt: HostRuntime) -> Result<(), Fail> {
 
 #[test]
 fn stops_at_faults(rt: HostRuntime) -> Result<(), Fail> {
-    // The calls that fail, of the source and of the sink: each first call takes 8 bytes.
-    let table = [
-        (9u64, 9u64, 2u8, "line 1 refused 16 NotBuilt\n"),
-        (1, 9, 4, ""),
-        (9, 0, 5, ""),
-        (9, 1, 5, "line 1 r"),
-    ];
+    // The calls that fail, of the source and of the sink, whose first calls take 8 bytes.
+    let table = [(1u64, 9u64, 4u8, ""), (9, 0, 5, ""), (9, 1, 5, "event 0 ")];
     let words = words_of(rt.alloc(), &["check"])?;
     for (source_fails, sink_fails, number, written) in table {
-        let text = b"[]        ".to_vec(rt.alloc())?;
+        let text = joined(rt.alloc(), WRITE_THEN_READ)?;
         let pieces = vec![in rt.alloc(); 8usize]?;
         let fails = vec![in rt.alloc(); source_fails]?;
         let mut source = MemSource::new(text, pieces, fails);
