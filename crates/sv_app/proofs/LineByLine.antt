@@ -112,4 +112,4 @@ all_read ls i before r e is none ends =
         number = ends.1 ∙ ap (λ n. n + 1) (sym (as_long ls));
         reason = ends.2;
       })
-      by_end (Err Memory) ends said good = tt
+      by_end (Err Memory) ends said good = absurd ends

@@ -26,8 +26,8 @@ Takes before line reason number new (Ok u) = (reason ≡ None) × (new ≡ with_
 Takes before line reason number new (Err (Rejected rejected)) = (reason ≡ Some rejected.reason) × (rejected.line ≡ number)
 Takes before line reason number new (Err Memory) = ⊤
 
--- at the end of a text no recording is open
+-- at the end of a text no recording is open; to see it takes no memory
 abbrev pub Ends : List Line → ℕ → Result (List Line) Stop → Type 0
 Ends before number (Ok accepted) = (is_open before ≡ false) × (accepted ≡ before)
 Ends before number (Err (Rejected rejected)) = (is_open before ≡ true) × (rejected.line ≡ number) × (rejected.reason ≡ Unfinished)
-Ends before number (Err Memory) = ⊤
+Ends before number (Err Memory) = ⊥
