@@ -1,5 +1,5 @@
 //! One line of a text.
-ghost use Rattle.std.specs.Prelude.{◌≡◌, IfOk, option_map};
+ghost use Rattle.std.specs.Prelude.{◌≡◌, ◌≢◌, IfOk, option_map};
 ghost use Rattle.serde_json.specs.View.{view};
 ghost use Rattle.sv_form.specs.Form.{found};
 ghost use Rattle.sv_trace.specs.Ops.{form_of};
@@ -119,8 +119,10 @@ fn refused(number: u64, cause: Cause) -> Fault
     })
 }
 
+// The answer to what was found, which takes no memory.
 fn answer(found: Found<Line>, number: u64) -> Result<Line, Fault>
-    ensures { Answers (cause_of found.flaw) found.value number result }
+    ensures answers { Answers (cause_of found.flaw) found.value number result }
+    ensures no_memory { result ≢ Err Fault.Memory }
 {
     match found.flaw {
         Flaw::Shape => Err(refused(number, Cause::BadShape)),
