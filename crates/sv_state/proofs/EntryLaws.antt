@@ -1,5 +1,5 @@
 -- The order as the entries tell it.
-use Rattle.std.proofs.Common.{not, ◌-◌, ap, ◌∙◌, length, get_or, ℕ, Bool, true, false, IsTrue, ◌||◌, ◌≡◌, ◌<◌, ◌≤◌, ◌⊎◌, ◌↔◌, inl, inr, List, [], ◌++◌, sym, refl, subst, Contains, arith, Option, Some, None, IfSome, Bor, append-nil}
+use Rattle.std.proofs.Common.{not, true≢false, ◌-◌, ap, ◌∙◌, length, get_or, ℕ, Bool, true, false, IsTrue, ◌||◌, ◌≡◌, ◌<◌, ◌≤◌, ◌⊎◌, ◌↔◌, inl, inr, List, [], ◌++◌, sym, refl, subst, Contains, arith, Option, Some, None, IfSome, Bor, append-nil}
 use Rattle.std.specs.Option.{option_copied}
 use Rattle.std.proofs.lemmas.List.{get_or_default}
 use Rattle.std.proofs.lemmas.List.Elements.{Contains-append_cases}
@@ -131,3 +131,7 @@ clear_step story epoch entries x i e here later k d from below =
           let b : i - 1 < length entries = omega arith in
           subst (λ j. Conflict (get_or entries j d).access x → Ordered story epoch (get_or entries j d).access x) w (rw (get_or_default entries (i - 1) d e b) here))
     ]
+
+-- two reads do not conflict
+pub reads_apart : (a x : Access) → writes a.what ≡ false → writes x.what ≡ false → Conflict a x → ⊥
+reads_apart a x first second conflict = absurd (let none : (writes a.what || writes x.what) ≡ false = (λ j. first j || second j) in true≢false (sym conflict.one_writes ∙ none))

@@ -1,11 +1,11 @@
 -- What a state stands for after each call.
-use Rattle.std.proofs.Common.{ℕ, zero, suc, IsTrue, ◌≡◌, ◌<◌, ◌≤◌, ◌+◌, ◌-◌, List, [], ◌∷◌, ◌++◌, ◌⊎◌, inl, inr, arith, refl, sym, ◌∙◌, ap, subst, Contains, length, get_or, map, Option, Some, None, IfSome, Bor, length-append, take}
+use Rattle.std.proofs.Common.{ℕ, zero, suc, IsTrue, false, ◌≡◌, ◌<◌, ◌≤◌, ◌+◌, ◌-◌, List, [], ◌∷◌, ◌++◌, ◌⊎◌, inl, inr, arith, refl, sym, ◌∙◌, ap, subst, Contains, length, get_or, map, Option, Some, None, IfSome, Bor, length-append, take}
 use Rattle.std.specs.List.{AllPairs}
 use Rattle.std.specs.Option.{option_copied}
 use Rattle.std.proofs.lemmas.List.{get_or_append_left, get_or-append_right, take_more, map-append}
 use Rattle.std.proofs.lemmas.List.Elements.{Contains-append_left, Contains-append_right, Contains-append_cases, Contains-push_cases, Contains-get_or}
 use Rattle.sv_model.specs.Cells.{covers, Within}
-use Rattle.sv_model.specs.Chain.{Placed, placed, own_deps, StartsAs, UpTo}
+use Rattle.sv_model.specs.Chain.{Placed, placed, own_deps, StartsAs, UpTo, writes}
 use Rattle.sv_model.specs.Order.{Story, Before, NoRaces, IsBelow, recorded}
 use Rattle.sv_model.proofs.Transitions.{placed_dep, placed_step}
 use Rattle.sv_model.specs.declared.work.Access.{Access}
@@ -16,7 +16,7 @@ use Rattle.sv_model.specs.declared.work.What.TheVariants.{Use, Transition}
 use Rattle.sv_state.specs.declared.entry.Entry.{Entry}
 use Rattle.sv_state.specs.declared.state.CellState.{CellState}
 use Rattle.sv_state.specs.Masks.{Stands}
-use Rattle.sv_state.specs.States.{AreListed, EachStands, StandsFor, AreNext, AreNew, AllChanged, HasAdvanced, HasGoneOn, HasComeTo, HasGrown, IsReady, RangesHold}
+use Rattle.sv_state.specs.States.{AreListed, AreReadsFrom, EachStands, StandsFor, AreNext, AreNew, AllChanged, HasAdvanced, HasGoneOn, HasComeTo, HasGrown, IsReady, RangesHold}
 use Rattle.sv_state.proofs.Standing.{stands_new}
 
 -- entries that changed, but not their accesses
@@ -43,19 +43,25 @@ module _ (R : Entry → Entry → Type 0) (same : (e f : Entry) → R e f → f.
         subst (λ (a : Access). Before (get_or new i d).access a) (sym at_j) (subst (λ (a : Access). Before a (get_or old j d).access) (sym at_i) (lists.in_order i j d lt (omega arith))));
   }
 
+  pub reads_stay : {from : ℕ} → AreReadsFrom from old → AreReadsFrom from new
+  reads_stay {from} reads k d le within =
+      let l = all.long in
+      ap (λ (a : Access). writes a.what) (same (get_or old k d) (get_or new k d) (all.each k d (omega arith))) ∙ reads k d le (omega arith)
+
   pub each_goes : (cell : Cell) (deps more : List Placed) (step next : ℕ) → ((e f : Entry) → R e f → Stands cell e.access deps step e.reached → Stands cell e.access more next f.reached) → EachStands cell deps step old → EachStands cell more next new
   each_goes cell deps more step next goes each f on =
       let e = to_old f on in
       subst (λ (a : Access). Stands cell a more next f.reached) (sym (same e.0 f e.2)) (goes e.0 f e.2 (each e.0 e.1))
 
 -- a later step begins
-pub state_advanced : (old new : CellState) → old.step < new.step → AllChanged HasAdvanced old.entries.items new.entries.items → HasComeTo new.step old new
-state_advanced old new lt all = record {
+pub state_advanced : (old new : CellState) → old.step < new.step → new.written ≡ old.written → AllChanged HasAdvanced old.entries.items new.entries.items → HasComeTo new.step old new
+state_advanced old new lt kept all = record {
   step = refl;
   stands = λ story epoch st. record {
     lists = lists_stay HasAdvanced (λ e f h. h.access) old.entries.items new.entries.items all st.lists;
     up_to = λ d on. (let h = st.up_to d on in omega arith);
     each = each_goes HasAdvanced (λ e f h. h.access) old.entries.items new.entries.items all story.cell story.deps story.deps old.step new.step (λ e f h. h.stands story.cell story.deps old.step new.step lt) st.each;
+    reads = subst (λ n. AreReadsFrom n new.entries.items) (sym kept) (reads_stay HasAdvanced (λ e f h. h.access) old.entries.items new.entries.items all st.reads);
   };
 }
 
@@ -63,8 +69,8 @@ up_to_more : (deps : List Placed) (g : Group) → UpTo deps g.step → UpTo (dep
 up_to_more deps g up d on = elim (Contains-append_cases deps (placed g) d on) [ inl old ↦ up d old | inr new ↦ (let s = placed_step g d new in omega arith) ]
 
 -- the entries go through a group of the present step
-pub state_grown : (at : Cell) (g : Group) (first old new : CellState) → HasComeTo g.step first old → new.step ≡ old.step → AllChanged (HasGoneOn at g) old.entries.items new.entries.items → HasGrown at g first new
-state_grown at g first old new come same all = record {
+pub state_grown : (at : Cell) (g : Group) (first old new : CellState) → HasComeTo g.step first old → new.step ≡ old.step → new.written ≡ old.written → AllChanged (HasGoneOn at g) old.entries.items new.entries.items → HasGrown at g first new
+state_grown at g first old new come same kept all = record {
   step = same ∙ come.step;
   stands = λ story epoch alike before.
       let st = come.stands story epoch before in
@@ -75,11 +81,12 @@ state_grown at g first old new come same all = record {
         each = subst (λ n. EachStands story.cell (story.deps ++ placed g) n new.entries.items) (sym now)
             (each_goes (HasGoneOn at g) (λ e f h. h.access) old.entries.items new.entries.items all story.cell story.deps (story.deps ++ placed g) g.step g.step (λ e f h. h.stands story.cell alike story.deps)
             (subst (λ n. EachStands story.cell story.deps n old.entries.items) come.step st.each));
+        reads = subst (λ n. AreReadsFrom n new.entries.items) (sym kept) (reads_stay (HasGoneOn at g) (λ e f h. h.access) old.entries.items new.entries.items all st.reads);
       };
 }
 
-pub state_grown_at : (at cell : Cell) → at ≡ cell → (g : Group) (first old new : CellState) → HasComeTo g.step first old → new.step ≡ old.step → AllChanged (HasGoneOn at g) old.entries.items new.entries.items → HasGrown cell g first new
-state_grown_at at cell is g first old new come same all = subst (λ (c : Cell). HasGrown c g first new) is (state_grown at g first old new come same all)
+pub state_grown_at : (at cell : Cell) → at ≡ cell → (g : Group) (first old new : CellState) → HasComeTo g.step first old → new.step ≡ old.step → new.written ≡ old.written → AllChanged (HasGoneOn at g) old.entries.items new.entries.items → HasGrown cell g first new
+state_grown_at at cell is g first old new come same kept all = subst (λ (c : Cell). HasGrown c g first new) is (state_grown at g first old new come same kept all)
 
 -- the epoch begins anew
 pub state_restarted : (old new : CellState) → new.step ≡ old.step → new.entries.items ≡ [] → (story : Story) (epoch next : ℕ) → StandsFor story epoch old → ((a : Access) → Contains story.accesses a → a.step < next) → StandsFor story next new
@@ -92,6 +99,7 @@ state_restarted old new same none story epoch next st before = record {
   };
   up_to = subst (λ n. UpTo story.deps n) (sym same) st.up_to;
   each = subst (λ (es : List Entry). EachStands story.cell story.deps new.step es) (sym none) (λ e on. absurd (let h = on.1 in omega arith));
+  reads = subst (λ (es : List Entry). AreReadsFrom new.written es) (sym none) (λ k d le within. absurd (omega arith));
 }
 
 -- an access after all dependencies starts none of them
@@ -140,8 +148,10 @@ pairs_append R xs ys p q cross i j d lt within = elim (before_or_from j (length 
 ]
 
 -- the accesses of a later step are added
-pub state_recorded : (old new : CellState) (accesses : List Access) (more : List Entry) → new.step ≡ old.step → new.entries.items ≡ old.entries.items ++ more → AreNew accesses more → (story : Story) (epoch : ℕ) → AreNext story epoch accesses → StandsFor story epoch old → StandsFor (recorded story accesses) epoch new
-state_recorded old new accesses more same items is story epoch next st = record {
+pub state_recorded : (old new : CellState) (accesses : List Access) (more : List Entry) → new.step ≡ old.step → new.entries.items ≡ old.entries.items ++ more → AreNew accesses more
+    → (((k : ℕ) (d : Entry) → old.written ≤ k → k < length old.entries.items → writes (get_or new.entries.items k d).access.what ≡ false) → AreReadsFrom new.written new.entries.items)
+    → (story : Story) (epoch : ℕ) → AreNext story epoch accesses → StandsFor story epoch old → StandsFor (recorded story accesses) epoch new
+state_recorded old new accesses more same items is reads story epoch next st = record {
   lists = subst (λ (es : List Entry). AreListed (story.accesses ++ accesses) epoch es) (sym items) record {
     listed = λ a on from. elim (Contains-append_cases story.accesses accesses a on) [
       | inl was ↦ (let e = st.lists.listed a was from in (e.0, Contains-append_left old.entries.items more e.0 e.1, e.2))
@@ -165,6 +175,8 @@ state_recorded old new accesses more same items is story epoch next st = record 
         (λ d on_d s. late_start story.cell e.access d e.access.what (next.after_deps e.access d (listed_of e new_one) on_d) s)
         (is.settled e new_one) (is.fresh e new_one)
   ]));
+  reads = reads (λ k d le within.
+      ap (λ (e : Entry). writes e.access.what) (ap (λ (es : List Entry). get_or es k d) items ∙ get_or_append_left old.entries.items more d k within) ∙ st.reads k d le within);
 }
   where
     listed_of : (e : Entry) → Contains more e → Contains accesses e.access

@@ -1,5 +1,5 @@
 -- What the state of a cell stands for.
-use Rattle.std.specs.Prelude.{ℕ, ◌++◌, ◌≡◌, ◌<◌, ◌≤◌, List, [], map, length, slice_index_or, Contains, IsTrue, Option}
+use Rattle.std.specs.Prelude.{ℕ, false, ◌++◌, ◌≡◌, ◌<◌, ◌≤◌, List, [], map, length, slice_index_or, Contains, IsTrue, Option}
 use Rattle.std.specs.List.{AllPairs}
 use Rattle.sv_model.specs.Cells.{covers, Within}
 use Rattle.sv_model.specs.Chain.{Placed, placed, writes, AllAlike, UpTo, own_deps}
@@ -20,6 +20,10 @@ pub record AreListed (accesses : List Access) (epoch : ℕ) (entries : List Entr
   pub in_epoch : (e : Entry) → Contains entries e → epoch ≤ e.access.step
   pub in_order : AllPairs (λ (e f : Entry). Before e.access f.access) entries
 
+-- the entries from this one on are reads
+abbrev pub AreReadsFrom : ℕ → List Entry → Type 0
+AreReadsFrom from entries = (k : ℕ) (d : Entry) → from ≤ k → k < length entries → writes (slice_index_or entries k d).access.what ≡ false
+
 -- what each entry keeps stands for the dependencies
 abbrev pub EachStands : Cell → List Placed → ℕ → List Entry → Type 0
 EachStands cell deps step entries = (e : Entry) → Contains entries e → Stands cell e.access deps step e.reached
@@ -29,6 +33,7 @@ pub record StandsFor (story : Story) (epoch : ℕ) (state : CellState) : Type 0 
   pub lists : AreListed story.accesses epoch state.entries.items
   pub up_to : UpTo story.deps state.step
   pub each : EachStands story.cell story.deps state.step state.entries.items
+  pub reads : AreReadsFrom state.written state.entries.items
 
 -- these accesses of the epoch are later than all of the story, in order
 pub record AreNext (story : Story) (epoch : ℕ) (accesses : List Access) : Type 0 where

@@ -11,7 +11,7 @@ ghost use Rattle.sv_model.specs.declared.work.Cell.{Cell};
 ghost use Rattle.sv_model.specs.declared.work.What.{What};
 ghost use Rattle.sv_model.specs.declared.work.Group.{Group};
 ghost use Rattle.sv_state.specs.Masks.{Stands};
-ghost use Rattle.sv_state.specs.States.{EachStands, ThroughSome, GoesThrough, IsEarlier, IsReady, AreNew, AllChanged, HasAdvanced, HasGoneOn};
+ghost use Rattle.sv_state.specs.States.{AreReadsFrom, EachStands, ThroughSome, GoesThrough, IsEarlier, IsReady, AreNew, AllChanged, HasAdvanced, HasGoneOn};
 
 use crate::reached::{Reached, writes};
 use std::alloc::{AllocError, Global};
@@ -161,16 +161,36 @@ fn kind_of(a: What, x: What) -> Kind
     }
 }
 
-/// The latest of the entries with which x races.
-pub fn partner_of(entries: &[Entry], x: &Access, group: Option<&Group>) -> Option<Partner>
+/// How many of so many entries can conflict with an access: all with a write, the first `written` with
+/// a read, since those behind are reads.
+fn conflicting(entries: usize, written: usize, what: What) -> usize
+    ensures within { result ≤ entries }
+    ensures rest { (k : ℕ) → result ≤ k → k < entries → (written ≤ k) × (chain.writes what ≡ false) }
+{
+    if writes(what) || entries < written {
+        entries
+    } else {
+        written
+    }
+}
+
+/// The latest of the entries with which x races. From the entry `written` on they are reads.
+pub fn partner_of(
+    entries: &[Entry],
+    written: usize,
+    x: &Access,
+    group: Option<&Group>,
+) -> Option<Partner>
     requires own { IfSome group (λ g. IsOwn x.now g.now) }
     ensures { (story : Story) (epoch step : ℕ) → IsReady story epoch step entries.now x.now (option_copied group.entry)
+        → AreReadsFrom written entries.now
         → MatchOption result
         (IsClear (extended story (own_deps (option_copied group.entry))) epoch x.now)
         (λ p. IsPartner (extended story (own_deps (option_copied group.entry))) epoch x.now p.access
         × (p.kind ≡ order.kind_of (chain.writes p.access.what) (chain.writes x.now.what))) }
 {
-    for i in (0..entries.len()).rev() {
+    let last = conflicting(entries.len(), written, x.what);
+    for i in (0..last).rev() {
         if races(entries, &entries[i], x, group) {
             let access = entries[i].access;
             return Some(Partner {
@@ -180,6 +200,21 @@ pub fn partner_of(entries: &[Entry], x: &Access, group: Option<&Group>) -> Optio
         }
     }
     None
+}
+
+/// Where the reads at the end begin, where those before the entry `from` begin at `written`.
+pub fn written_from(entries: &[Entry], from: usize, written: usize) -> usize
+    requires { from ≤ length entries.now }
+    ensures { ((k : ℕ) (d : Entry) → written ≤ k → k < from → chain.writes (slice_index_or entries.now k d).access.what ≡ false)
+        → AreReadsFrom result entries.now }
+{
+    let mut last = written;
+    for i in from..entries.len() {
+        if writes(entries[i].access.what) {
+            last = i + 1;
+        }
+    }
+    last
 }
 
 /// Entries for the accesses, from which nothing is reached yet.

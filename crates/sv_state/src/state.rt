@@ -6,16 +6,18 @@ ghost use Rattle.sv_model.specs.Chain.{IsOwn, own_deps, writes};
 ghost use Rattle.sv_model.specs.Order.{Story, IsClear, IsPartner, NoRaces, IsBelow, extended, recorded, kind_of};
 ghost use Rattle.sv_model.specs.declared.work.Cell.{Cell};
 
-use crate::entry::{Entry, advance_all, entries_of, extend_all, partner_of};
+use crate::entry::{Entry, advance_all, entries_of, extend_all, partner_of, written_from};
 use std::alloc::{AllocError, Global};
 use sv_model::work::{Access, Area, Cell, Group, Partner};
 
 /// The accesses of a cell since its epoch began, each with what dependency chains reach from it.
 ///
-/// `step` is the step of the last group that it went through, or 0.
+/// `step` is the step of the last group that it went through, or 0. The entries from `written` on are
+/// reads, so a read is not compared with them.
 #[derive(Drop)]
 pub struct CellState {
     entries: Vec<Entry>,
+    written: usize,
     step: u64,
 }
 
@@ -46,6 +48,7 @@ impl CellState {
     {
         CellState {
             entries: Vec::new(alloc),
+            written: 0,
             step: 0,
         }
     }
@@ -69,7 +72,7 @@ impl CellState {
             (λ p. IsPartner (extended story (own_deps (option_copied group.entry))) epoch access.now p.access
             × (p.kind ≡ kind_of (writes p.access.what) (writes access.now.what))) }
     {
-        partner_of(&self.entries, access, group)
+        partner_of(&self.entries, self.written, access, group)
     }
 
     /// Adds the accesses of one step on the cell. Where memory is missing the state is as before.
@@ -81,7 +84,9 @@ impl CellState {
     {
         let alloc = *self.entries.allocator();
         let mut more = entries_of(alloc, accesses)?;
+        let before = self.entries.len();
         self.entries.append(&mut more)?;
+        self.written = written_from(&self.entries, before, self.written);
         Ok(())
     }
 
@@ -114,5 +119,6 @@ impl CellState {
             → StandsFor story next self.new }
     {
         self.entries.clear();
+        self.written = 0;
     }
 }
