@@ -1,7 +1,7 @@
 -- The order as the entries tell it.
-use Rattle.std.proofs.Common.{not, true≢false, ◌-◌, ap, ◌∙◌, length, get_or, ℕ, Bool, true, false, IsTrue, ◌||◌, ◌≡◌, ◌<◌, ◌≤◌, ◌⊎◌, ◌↔◌, inl, inr, List, [], ◌++◌, sym, refl, subst, Contains, arith, Option, Some, None, IfSome, Bor, append-nil}
+use Rattle.std.proofs.Common.{not, true≢false, ◌+◌, drop, take, AllPairs, ◌-◌, ap, ◌∙◌, length, get_or, ℕ, Bool, true, false, IsTrue, ◌||◌, ◌≡◌, ◌<◌, ◌≤◌, ◌⊎◌, ◌↔◌, inl, inr, List, [], ◌++◌, sym, refl, subst, Contains, arith, Option, Some, None, IfSome, Bor, append-nil}
 use Rattle.std.specs.Option.{option_copied}
-use Rattle.std.proofs.lemmas.List.{get_or_default}
+use Rattle.std.proofs.lemmas.List.{get_or_default, get_or-drop, length-drop, take_all}
 use Rattle.std.proofs.lemmas.List.Elements.{Contains-append_cases}
 use Rattle.sv_model.specs.Chain.{Placed, Chain, EndsAs, IsOwn, own_deps, writes}
 use Rattle.sv_model.specs.Order.{Story, DirectIn, Before, NotLater, Ordered, directly, through, Conflict, NoRaces, RacesWith, IsClear, IsPartner, extended}
@@ -15,7 +15,7 @@ use Rattle.sv_model.specs.declared.work.Group.{Group}
 use Rattle.sv_model.specs.declared.work.What.TheVariants.{Use, Transition}
 use Rattle.sv_mask.specs.declared.usage.Usage.{Usage}
 use Rattle.sv_state.specs.declared.entry.Entry.{Entry}
-use Rattle.sv_state.specs.States.{AreListed, ThroughSome}
+use Rattle.sv_state.specs.States.{AreListed, HasLater, ThroughSome}
 use Rattle.sv_state.proofs.Standing.{any_of}
 
 -- the dependencies of its own group are of the step of the transition
@@ -135,3 +135,49 @@ clear_step story epoch entries x i e here later k d from below =
 -- two reads do not conflict
 pub reads_apart : (a x : Access) → writes a.what ≡ false → writes x.what ≡ false → Conflict a x → ⊥
 reads_apart a x first second conflict = absurd (let none : (writes a.what || writes x.what) ≡ false = (λ j. first j || second j) in true≢false (sym conflict.one_writes ∙ none))
+
+-- a write between is one of the later entries
+pub through_later : (deps : List Placed) (cell : Cell) (entries later : List Entry) (e : Entry) (x : Access) → HasLater entries e later → (c : Bool) → IsTrue c ↔ ThroughSome deps cell e.access x later → IsTrue c ↔ ThroughSome deps cell e.access x entries
+through_later deps cell entries later e x part c is = (
+  λ t. (let w = is.0 t in (w.0, part.known w.0 w.1, w.2)),
+  λ w. is.1 (w.0, part.all w.0 w.1 w.2.before, w.2),
+)
+
+-- those behind an entry are the later ones
+pub has_later : (entries : List Entry) (i : ℕ) (e : Entry) → i < length entries → get_or entries i e ≡ e → AllPairs (λ (f g : Entry). Before f.access g.access) entries → HasLater entries e (drop (i + 1) entries)
+has_later entries i e within is order = record {
+  listed = (i, within, is);
+  known = λ b on. (
+      let k = on.0 in
+      let l = length-drop (i + 1) entries in
+      let lt : i + 1 + k < length entries = (let h = on.1 in omega arith) in
+      (i + 1 + k, lt, sym (get_or-drop (i + 1) entries k b) ∙ on.2));
+  all = λ b on later. (
+      let k = on.0 in
+      elim (three k i) [
+        | inl before ↦ absurd (
+            let at : get_or entries k b ≡ b = on.2 in
+            let here : get_or entries i b ≡ e = get_or_default entries i b e within ∙ is in
+            not_before b.access e.access later (subst (λ (f : Entry). Before f.access e.access) at (subst (λ (g : Entry). Before (get_or entries k b).access g.access) here (order k i b before within))))
+        | inr w ↦ elim w [
+          | inl same ↦ absurd (
+              let e_is_b : e ≡ b = sym is ∙ get_or_default entries i e b within ∙ ap (λ j. get_or entries j b) (sym same) ∙ on.2 in
+              let steps = ap (λ (f : Entry). f.access.step) e_is_b in
+              omega (arith, later, steps))
+          | inr above ↦ (
+              let l = length-drop (i + 1) entries in
+              let h = on.1 in
+              let back : i + 1 + (k - (i + 1)) ≡ k = omega arith in
+              (k - (i + 1), omega arith, get_or-drop (i + 1) entries (k - (i + 1)) b ∙ ap (λ j. get_or entries j b) back ∙ on.2))
+        ]
+      ]);
+}
+  where
+    not_before : (a c : Access) → c.step < a.step → Before a c → ⊥
+    not_before a c later (inl w) = omega arith
+    not_before a c later (inr w) = let s = w.0 in omega arith
+
+pub has_later_slice : (entries : List Entry) (i : ℕ) (e : Entry) → i < length entries → e ≡ get_or entries i e → AllPairs (λ (f g : Entry). Before f.access g.access) entries → HasLater entries e (take (length entries - (i + 1)) (drop (i + 1) entries))
+has_later_slice entries i e within is order =
+    let l = length-drop (i + 1) entries in
+    subst (λ (later : List Entry). HasLater entries e later) (sym (take_all (length entries - (i + 1)) (drop (i + 1) entries) (omega (arith, l)))) (has_later entries i e within (sym is) order)

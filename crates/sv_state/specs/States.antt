@@ -71,6 +71,12 @@ pub record GoesThrough (deps : List Placed) (cell : Cell) (a b x : Access) : Typ
 abbrev pub ThroughSome : List Placed → Cell → Access → Access → List Entry → Type 0
 ThroughSome deps cell a x entries = (e : Entry) × Contains entries e × GoesThrough deps cell a e.access x
 
+-- the entry is one of these, and of the others the later ones are all that are of later steps
+pub record HasLater (entries : List Entry) (e : Entry) (later : List Entry) : Type 0 where
+  pub listed : Contains entries e
+  pub known : (b : Entry) → Contains later b → Contains entries b
+  pub all : (b : Entry) → Contains entries b → e.access.step < b.access.step → Contains later b
+
 -- the entries stand for the story, which has no race, and x comes after it
 pub record IsReady (story : Story) (epoch step : ℕ) (entries : List Entry) (x : Access) (group : Option Group) : Type 0 where
   pub lists : AreListed story.accesses epoch entries

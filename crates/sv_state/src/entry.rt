@@ -11,7 +11,7 @@ ghost use Rattle.sv_model.specs.declared.work.Cell.{Cell};
 ghost use Rattle.sv_model.specs.declared.work.What.{What};
 ghost use Rattle.sv_model.specs.declared.work.Group.{Group};
 ghost use Rattle.sv_state.specs.Masks.{Stands};
-ghost use Rattle.sv_state.specs.States.{AreReadsFrom, EachStands, ThroughSome, GoesThrough, IsEarlier, IsReady, AreNew, AllChanged, HasAdvanced, HasGoneOn};
+ghost use Rattle.sv_state.specs.States.{AreReadsFrom, EachStands, ThroughSome, GoesThrough, IsEarlier, IsReady, HasLater, AreNew, AllChanged, HasAdvanced, HasGoneOn};
 
 use crate::reached::{Reached, writes};
 use std::alloc::{AllocError, Global};
@@ -123,32 +123,32 @@ fn goes_through_some(entries: &[Entry], a: &Access, x: &Access, group: Option<&G
     false
 }
 
-/// Whether the access of one of the entries is ordered before x.
-fn ordered(entries: &[Entry], e: &Entry, x: &Access, group: Option<&Group>) -> bool
-    requires listed { Contains entries.now e.now }
+/// Whether an entry's access is ordered before x, by the entries that are later than it.
+fn ordered(e: &Entry, later: &[Entry], x: &Access, group: Option<&Group>) -> bool
     requires own { IfSome group (λ g. IsOwn x.now g.now) }
-    ensures { (story : Story) (epoch step : ℕ) → IsReady story epoch step entries.now x.now (option_copied group.entry)
+    ensures { (story : Story) (epoch step : ℕ) (entries : List Entry) → IsReady story epoch step entries x.now (option_copied group.entry)
+        → HasLater entries e.now later.now
         → IsTrue result ↔ Ordered (extended story (own_deps (option_copied group.entry))) epoch e.now.access x.now }
 {
     if direct(e, x, group) {
         return true;
     }
-    goes_through_some(entries, &e.access, x, group)
+    goes_through_some(later, &e.access, x, group)
 }
 
-/// Whether x races with the access of one of the entries.
-fn races(entries: &[Entry], e: &Entry, x: &Access, group: Option<&Group>) -> bool
-    requires listed { Contains entries.now e.now }
+/// Whether x races with an entry's access, by the entries that are later than it.
+fn races(e: &Entry, later: &[Entry], x: &Access, group: Option<&Group>) -> bool
     requires own { IfSome group (λ g. IsOwn x.now g.now) }
-    ensures races { (story : Story) (epoch step : ℕ) → IsReady story epoch step entries.now x.now (option_copied group.entry)
+    ensures races { (story : Story) (epoch step : ℕ) (entries : List Entry) → IsReady story epoch step entries x.now (option_copied group.entry)
+        → HasLater entries e.now later.now
         → IsTrue result ↔ RacesWith (extended story (own_deps (option_copied group.entry))) epoch x.now e.now.access }
-    ensures clear { result ≡ false → (story : Story) (epoch step : ℕ) → IsReady story epoch step entries.now x.now (option_copied group.entry)
-        → Conflict e.now.access x.now → Ordered (extended story (own_deps (option_copied group.entry))) epoch e.now.access x.now }
+    ensures clear { result ≡ false → (story : Story) (epoch step : ℕ) (entries : List Entry) → IsReady story epoch step entries x.now (option_copied group.entry)
+        → HasLater entries e.now later.now → Conflict e.now.access x.now → Ordered (extended story (own_deps (option_copied group.entry))) epoch e.now.access x.now }
 {
     if !conflicts(&e.access, x) {
         return false;
     }
-    !ordered(entries, e, x, group)
+    !ordered(e, later, x, group)
 }
 
 fn kind_of(a: What, x: What) -> Kind
@@ -191,7 +191,7 @@ pub fn partner_of(
 {
     let last = conflicting(entries.len(), written, x.what);
     for i in (0..last).rev() {
-        if races(entries, &entries[i], x, group) {
+        if races(&entries[i], &entries[i + 1..], x, group) {
             let access = entries[i].access;
             return Some(Partner {
                 access,
