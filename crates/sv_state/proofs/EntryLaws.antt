@@ -2,7 +2,7 @@
 use Rattle.std.proofs.Common.{not, true≢false, ◌+◌, drop, take, AllPairs, ◌-◌, ap, ◌∙◌, length, get_or, ℕ, Bool, true, false, IsTrue, ◌||◌, ◌≡◌, ◌<◌, ◌≤◌, ◌⊎◌, ◌↔◌, inl, inr, List, [], ◌++◌, sym, refl, subst, Contains, arith, Option, Some, None, IfSome, Bor, append-nil}
 use Rattle.std.specs.Option.{option_copied}
 use Rattle.std.proofs.lemmas.List.{get_or_default, get_or-drop, length-drop, take_all}
-use Rattle.std.proofs.lemmas.List.Elements.{Contains-append_cases}
+use Rattle.std.proofs.lemmas.List.Elements.{Contains-append_cases, Contains-get_or}
 use Rattle.sv_model.specs.Chain.{Placed, Chain, EndsAs, IsOwn, own_deps, writes}
 use Rattle.sv_model.specs.Order.{Story, DirectIn, Before, NotLater, Ordered, directly, through, Conflict, NoRaces, RacesWith, IsClear, IsPartner, extended}
 use Rattle.sv_model.proofs.Orders.{before_write, clean_extended}
@@ -15,7 +15,7 @@ use Rattle.sv_model.specs.declared.work.Group.{Group}
 use Rattle.sv_model.specs.declared.work.What.TheVariants.{Use, Transition}
 use Rattle.sv_mask.specs.declared.usage.Usage.{Usage}
 use Rattle.sv_state.specs.declared.entry.Entry.{Entry}
-use Rattle.sv_state.specs.States.{AreListed, HasLater, ThroughSome}
+use Rattle.sv_state.specs.States.{AreListed, HasLater, IsSettled, SettlesFor, ThroughSome}
 use Rattle.sv_state.proofs.Standing.{any_of}
 
 -- the dependencies of its own group are of the step of the transition
@@ -181,3 +181,44 @@ pub has_later_slice : (entries : List Entry) (i : ℕ) (e : Entry) → i < lengt
 has_later_slice entries i e within is order =
     let l = length-drop (i + 1) entries in
     subst (λ (later : List Entry). HasLater entries e later) (sym (take_all (length entries - (i + 1)) (drop (i + 1) entries) (omega (arith, l)))) (has_later entries i e within (sym is) order)
+
+-- entries stand in the order of their steps
+not_above : (entries : List Entry) (k i : ℕ) (d e : Entry) → k ≤ i → i < length entries → e ≡ get_or entries i e → AllPairs (λ (f g : Entry). Before f.access g.access) entries → (get_or entries k d).access.step ≤ e.access.step
+not_above entries k i d e le within is order = elim (three k i) [
+  | inl before ↦ (
+      let here : get_or entries i d ≡ e = get_or_default entries i d e within ∙ sym is in
+      step_of (get_or entries k d).access e.access (subst (λ (g : Entry). Before (get_or entries k d).access g.access) here (order k i d before within)))
+  | inr w ↦ elim w [
+    | inl same ↦ (
+        let steps = ap (λ (f : Entry). f.access.step) (ap (λ j. get_or entries j d) same ∙ get_or_default entries i d e within ∙ sym is) in
+        omega (arith, steps))
+    | inr above ↦ absurd (omega arith)
+  ]
+]
+  where
+    step_of : (a c : Access) → Before a c → a.step ≤ c.step
+    step_of a c (inl w) = omega arith
+    step_of a c (inr w) = let s = w.0 in omega arith
+
+before_or_from : (k n : ℕ) → (k < n) ⊎ (n ≤ k)
+before_or_from k n = grind arith
+
+-- all that conflict before a write that settles are ordered before x
+pub settled_clear : (story : Story) (own : List Placed) (epoch : ℕ) (entries : List Entry) (x : Access) (lists : AreListed story.accesses epoch entries) (clean : NoRaces story epoch) (i : ℕ) (e : Entry) (settled : ℕ)
+    → i - 1 < length entries → e ≡ get_or entries (i - 1) e → e.access.step < settled → IsSettled (story.deps ++ own) story.cell x entries settled
+    → ((k : ℕ) (d : Entry) → i ≤ k → k < length entries → Conflict (get_or entries k d).access x → Ordered (extended story own) epoch (get_or entries k d).access x)
+    → IsClear (extended story own) epoch x
+settled_clear story own epoch entries x lists clean i e settled within is early (inl none) later = absurd (omega (arith, early, none))
+settled_clear story own epoch entries x lists clean i e settled within is early (inr w) later =
+    all_clear story own epoch entries x lists (λ k d from below conflict. elim (before_or_from k i) [
+      | inl low ↦ (
+          let f = get_or entries k d in
+          let above = not_above entries k (i - 1) d e (omega arith) within is lists.in_order in
+          let steps : f.access.step < w.0.access.step = (let s = w.3 in omega (arith, above, early, s)) in
+          to_order story own epoch entries f x lists clean (Contains-get_or entries k d below) (inr (w.0, w.1, record { write = w.2.write; before = steps; after = w.2.after; direct = w.2.direct })))
+      | inr high ↦ later k d high below conflict
+    ])
+
+-- one more entry may settle
+pub settled_by : (deps : List Placed) (cell : Cell) (x : Access) (entries : List Entry) (i : ℕ) (e : Entry) → i < length entries → e ≡ get_or entries i e → SettlesFor deps cell x e.access → IsSettled deps cell x entries e.access.step
+settled_by deps cell x entries i e within is settles = inr (e, (i, within, sym is), settles, refl)

@@ -1,5 +1,5 @@
 -- What the state of a cell stands for.
-use Rattle.std.specs.Prelude.{ℕ, false, ◌++◌, ◌≡◌, ◌<◌, ◌≤◌, List, [], map, length, slice_index_or, Contains, IsTrue, Option}
+use Rattle.std.specs.Prelude.{ℕ, false, ◌++◌, ◌≡◌, ◌<◌, ◌≤◌, ◌⊎◌, List, [], map, length, slice_index_or, Contains, IsTrue, Option}
 use Rattle.std.specs.List.{AllPairs}
 use Rattle.sv_model.specs.Cells.{covers, Within}
 use Rattle.sv_model.specs.Chain.{Placed, placed, writes, AllAlike, UpTo, own_deps}
@@ -70,6 +70,16 @@ pub record GoesThrough (deps : List Placed) (cell : Cell) (a b x : Access) : Typ
 
 abbrev pub ThroughSome : List Placed → Cell → Access → Access → List Entry → Type 0
 ThroughSome deps cell a x entries = (e : Entry) × Contains entries e × GoesThrough deps cell a e.access x
+
+-- a write that is directly ordered before x
+pub record SettlesFor (deps : List Placed) (cell : Cell) (x : Access) (b : Access) : Type 0 where
+  pub write : IsTrue (writes b.what)
+  pub after : b.step < x.step
+  pub direct : DirectIn deps cell b x
+
+-- the step is 0, or that of one of the entries that settles
+abbrev pub IsSettled : List Placed → Cell → Access → List Entry → ℕ → Type 0
+IsSettled deps cell x entries settled = (settled ≡ 0) ⊎ ((e : Entry) × Contains entries e × SettlesFor deps cell x e.access × (e.access.step ≡ settled))
 
 -- the entry is one of these, and of the others the later ones are all that are of later steps
 pub record HasLater (entries : List Entry) (e : Entry) (later : List Entry) : Type 0 where

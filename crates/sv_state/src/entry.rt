@@ -11,7 +11,7 @@ ghost use Rattle.sv_model.specs.declared.work.Cell.{Cell};
 ghost use Rattle.sv_model.specs.declared.work.What.{What};
 ghost use Rattle.sv_model.specs.declared.work.Group.{Group};
 ghost use Rattle.sv_state.specs.Masks.{Stands};
-ghost use Rattle.sv_state.specs.States.{AreReadsFrom, EachStands, ThroughSome, GoesThrough, IsEarlier, IsReady, HasLater, AreNew, AllChanged, HasAdvanced, HasGoneOn};
+ghost use Rattle.sv_state.specs.States.{AreReadsFrom, EachStands, ThroughSome, GoesThrough, IsEarlier, IsReady, HasLater, SettlesFor, AreNew, AllChanged, HasAdvanced, HasGoneOn};
 
 use crate::reached::{Reached, writes};
 use std::alloc::{AllocError, Global};
@@ -161,6 +161,18 @@ fn kind_of(a: What, x: What) -> Kind
     }
 }
 
+/// Whether the entry's access is a write that is directly ordered before x. In an epoch without races
+/// all that conflict with x at steps before this write are then ordered before x too.
+fn settles(e: &Entry, x: &Access, group: Option<&Group>) -> bool
+    requires own { IfSome group (λ g. IsOwn x.now g.now) }
+    ensures { (cell : Cell) (deps : List Placed) (step : ℕ) → IsEarlier deps cell x.now (option_copied group.entry)
+        → Stands cell e.now.access deps step e.now.reached
+        → IsTrue result → SettlesFor (deps ++ own_deps (option_copied group.entry)) cell x.now e.now.access }
+{
+    let earlier = writes(e.access.what) && e.access.step < x.step;
+    earlier && direct(e, x, group)
+}
+
 /// How many of so many entries can conflict with an access: all with a write, the first `written` with
 /// a read, since those behind are reads.
 fn conflicting(entries: usize, written: usize, what: What) -> usize
@@ -190,13 +202,20 @@ pub fn partner_of(
         × (p.kind ≡ order.kind_of (chain.writes p.access.what) (chain.writes x.now.what))) }
 {
     let last = conflicting(entries.len(), written, x.what);
+    let mut settled = 0;
     for i in (0..last).rev() {
-        if races(&entries[i], &entries[i + 1..], x, group) {
-            let access = entries[i].access;
+        let e = &entries[i];
+        if e.access.step < settled {
+            return None;
+        }
+        if races(e, &entries[i + 1..], x, group) {
             return Some(Partner {
-                access,
-                kind: kind_of(access.what, x.what),
+                access: e.access,
+                kind: kind_of(e.access.what, x.what),
             });
+        }
+        if settled == 0 && settles(e, x, group) {
+            settled = e.access.step;
         }
     }
     None
