@@ -50,7 +50,7 @@ pub fn accesses(
     requires fit { All AccessFits declared.now }
     ensures { IfOk result (λ accesses. accesses ≡ accesses_from here.step 0 (map (spec.declared_access here) declared.now)) }
 {
-    let mut accesses = List::new(alloc);
+    let mut accesses = List::with_capacity(alloc, declared.len())?;
     let mut pos = 0;
     for access in declared {
         accesses.push_or_drop(declared_access(here, *access, pos))?;

@@ -81,7 +81,7 @@ pub fn groups(alloc: Global, elements: &[Element], here: Here) -> Result<List<Gr
     requires fit { All ElementFits elements.now }
     ensures { IfOk result (λ groups. groups ≡ groups_from here.step 0 (map (spec.element_group here) elements.now)) }
 {
-    let mut groups = List::new(alloc);
+    let mut groups = List::with_capacity(alloc, elements.len())?;
     let mut pos = 0;
     for element in elements {
         let group = element_group(alloc, here, *element, pos)?;

@@ -240,7 +240,7 @@ pub fn written_from(entries: &[Entry], from: usize, written: usize) -> usize
 pub fn entries_of(alloc: Global, accesses: &[Access]) -> Result<Vec<Entry>, AllocError>
     ensures { IfOk result (λ es. AreNew accesses.now es.items) }
 {
-    let mut entries = Vec::new(alloc);
+    let mut entries = Vec::with_capacity(alloc, accesses.len())?;
     for a in accesses {
         let reached = Reached::new(alloc);
         entries.push(Entry {
