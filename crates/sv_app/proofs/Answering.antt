@@ -4,6 +4,7 @@ use Rattle.std.specs.List.{flat_map}
 use Rattle.std.proofs.lemmas.Bool.{true≢false}
 use Rattle.std.proofs.lemmas.List.Sums.{sum_by-cons}
 use Rattle.sv_model.specs.Binding.{Bound}
+use Rattle.sv_model.specs.History.{IsWhole}
 use Rattle.sv_model.specs.Flow.{flow, held_items, settled, step}
 use Rattle.sv_model.specs.Reports.{IsReported, Spot, SpotBefore, spots_of, story_of}
 use Rattle.sv_model.specs.Work.{bound_steps as bound_items, work, work_steps}
@@ -30,6 +31,7 @@ use Rattle.sv_app.specs.Trace.{trace_of}
 use Rattle.sv_app.specs.Work.{batch_work}
 use Rattle.sv_app.specs.declared.status.Status.{Status}
 use Rattle.sv_app.specs.declared.status.Status.TheVariants.{Clean, Found}
+use Rattle.sv_app.proofs.TextOrder.{nothing_is_whole, publication_is_whole, submit_is_whole}
 use Rattle.sv_app.proofs.TraceOf.{commands_in, ended, ended_trace, no_events, only_submit, submitted, whole_trace}
 use Rattle.sv_app.proofs.WholeWork.{history, nothing_held, released_only, released_some, steps_are}
 
@@ -177,6 +179,7 @@ after_submit lane queue batches fence before reports status text a are s p =
     let t = whole_trace e.0 e.1 (commands_in lines) in
     let held = nothing_held e.0 e.1 (commands_in lines) in
     subst (λ (t : Trace). IsTextOf t status text) (sym e.2) (
+      submit_is_whole e.0 e.1 (commands_in lines),
       reply_with [] ∷ reply_with reports ∷ [],
       replies_are e.0 e.1 lines a reports are,
       s ∙ status_is reports ∙ ap (status_of (reply_with [] ∷ reply_with reports ∷ [])) (sym held),
@@ -210,6 +213,7 @@ after_end rec before reports status text a none s p =
     let marks : List Mark = Publish 0 ∷ [] in
     let held = ended_held e.0 e.1 cs in
     subst (λ (t : Trace). IsTextOf t status text) (sym e.2) (
+      publication_is_whole e.0 e.1 cs,
       reply_with [] ∷ [],
       record { long = refl; each = one_reply t marks (no_reply t marks 0 (unreleased t marks 0 (ended_work e.0 e.1 cs))) },
       s ∙ ap printed_status none ∙ ap (status_of (reply_with [] ∷ [])) (sym held),
@@ -232,8 +236,10 @@ without_events : (lines : List Line) (reports : List Report) (status : Status) (
     → status ≡ printed_status reports → text ≡ printed lines reports → printed lines [] ≡ total_line 0 0 0 0 → IsTextOf (trace_of lines) status text
 without_events lines reports status text a quiet none s p is =
     let t = trace_of lines in
-    subst (λ (marks : List Mark). (replies : List Reply) × AreReplies t marks replies × (status ≡ status_of replies (held_items t marks)) × (text ≡ history_text t marks replies (held_items t marks)))
-    (sym (no_events lines a quiet)) (
+    let none_came = no_events lines a quiet in
+    subst (λ (marks : List Mark). IsWhole t marks × (replies : List Reply) × AreReplies t marks replies × (status ≡ status_of replies (held_items t marks)) × (text ≡ history_text t marks replies (held_items t marks)))
+    (sym none_came.0) (
+      nothing_is_whole t none_came.1 none_came.2,
       [],
       record { long = refl; each = λ event d lt. absurd (omega arith) },
       s ∙ ap printed_status none ∙ ap (status_of []) (sym (quiet_held t)),

@@ -4,5 +4,6 @@ pub mod Replies
 pub mod BoundSteps
 pub mod LineLoop
 pub mod TraceOf
+pub mod TextOrder
 pub mod WholeWork
 pub mod Answering

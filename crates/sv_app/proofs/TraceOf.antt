@@ -241,18 +241,24 @@ form_is_built (line.Barrier r d ∷ before) it h = in_recording (line.Barrier r 
 form_is_built (line.End r ∷ before) it h = after_end it h
 form_is_built (other ∷ before) it h = absurd (true≢false (sym h))
 
-pub no_events : (lines : List Line) → IsAccepted lines → event_count lines ≡ 0 → (trace_of lines).text_order ≡ []
+abbrev pub HasNoEvents : Trace → Type 0
+HasNoEvents t = (t.text_order ≡ []) × (t.lane_scripts ≡ replicate 16 []) × (t.recorder_scripts ≡ replicate 16 [])
+
+without_events : {t : Trace} {cs : List Command} → (qs : List Line) × (rs : List Line) × (t ≡ open_trace qs rs cs) → HasNoEvents t
+without_events o = (ap (λ (t : Trace). t.text_order) o.2, ap (λ (t : Trace). t.lane_scripts) o.2, ap (λ (t : Trace). t.recorder_scripts) o.2)
+
+pub no_events : (lines : List Line) → IsAccepted lines → event_count lines ≡ 0 → HasNoEvents (trace_of lines)
 unfolding follows trace_of
-no_events [] a h = refl
-no_events (line.Queue queue family lane ∷ []) a h = refl
+no_events [] a h = (refl, refl, refl)
+no_events (line.Queue queue family lane ∷ []) a h = (refl, refl, refl)
 no_events (line.Queue queue family lane ∷ newest ∷ before) a h = absurd (queue_alone newest before queue family lane a.0)
 no_events (line.Buffer res size sharing ∷ []) a h = absurd (true≢false (sym a.0))
-no_events (line.Buffer res size sharing ∷ line.Queue queue family lane ∷ []) a h = refl
+no_events (line.Buffer res size sharing ∷ line.Queue queue family lane ∷ []) a h = (refl, refl, refl)
 no_events (line.Buffer res size sharing ∷ line.Queue queue family lane ∷ newest ∷ before) a h = absurd (queue_alone newest before queue family lane a.1.0)
 no_events (line.Buffer res size sharing ∷ other ∷ before) a h = absurd (true≢false (sym a.0))
-no_events (line.Begin rec recorder family ∷ before) a h = ap (λ (t : Trace). t.text_order) (opened (line.Begin rec recorder family ∷ before) a refl).2
-no_events (line.Work rec accesses ∷ before) a h = ap (λ (t : Trace). t.text_order) (opened (line.Work rec accesses ∷ before) a refl).2
-no_events (line.Barrier rec deps ∷ before) a h = ap (λ (t : Trace). t.text_order) (opened (line.Barrier rec deps ∷ before) a refl).2
+no_events (line.Begin rec recorder family ∷ before) a h = without_events (opened (line.Begin rec recorder family ∷ before) a refl)
+no_events (line.Work rec accesses ∷ before) a h = without_events (opened (line.Work rec accesses ∷ before) a refl)
+no_events (line.Barrier rec deps ∷ before) a h = without_events (opened (line.Barrier rec deps ∷ before) a refl)
 no_events (line.End rec ∷ before) a h = absurd (omega (arith, h))
 no_events (line.Submit lane queue batches fence ∷ before) a h = absurd (omega (arith, h))
 no_events (other ∷ before) a h = absurd (true≢false (sym (form_is_built before other a.0)))

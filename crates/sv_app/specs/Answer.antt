@@ -2,6 +2,7 @@
 use Rattle.std.specs.Prelude.{ℕ, Bool, ◌≡◌, ◌==◌, ◌&&◌, if◌then◌else◌, List, ◌++◌, Result, Ok, Err, codes, length}
 use Rattle.std.specs.Fmt.{decimal}
 use Rattle.sv_model.specs.Flow.{held_items}
+use Rattle.sv_model.specs.History.{IsWhole}
 use Rattle.sv_model.specs.declared.line.Line.{Line}
 use Rattle.sv_model.specs.declared.line.Trace.{Trace}
 use Rattle.sv_model.specs.declared.work.Held.{Held}
@@ -32,9 +33,9 @@ is_clean replies held = report_count replies == 0 && note_count replies == 0 && 
 abbrev pub status_of : List Reply → List Held → Status
 status_of replies held = if is_clean replies held then Clean else Found
 
--- the status of a trace, and its text: the history that its text has, with the reply to each event, and what is held at the end
+-- the status of a trace, and its text: its text order is a whole history, which is printed with the reply to each event and what is held at the end
 abbrev pub IsTextOf : Trace → Status → List ℕ → Type 0
-IsTextOf t status text = (replies : List Reply) × AreReplies t t.text_order replies
+IsTextOf t status text = IsWhole t t.text_order × (replies : List Reply) × AreReplies t t.text_order replies
     × (status ≡ status_of replies (held_items t t.text_order))
     × (text ≡ history_text t t.text_order replies (held_items t t.text_order))
 
