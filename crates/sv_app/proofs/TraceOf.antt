@@ -1,4 +1,4 @@
--- The trace of accepted lines: one queue, one buffer, one recording, one submit.
+-- The trace of accepted lines: its declarations, one recording, at most one submit.
 use Rattle.std.proofs.Common.{ℕ, ◌≡◌, ◌==◌, ◌&&◌, ◌||◌, Bool, true, false, List, [], ◌∷◌, ◌++◌, Option, Some, None, option_to_list, is_none, length, nat_le, replicate, refl, sym, ◌∙◌, ap, arith, append-nil, eqb-true}
 use Rattle.std.specs.List.{list_all}
 use Rattle.std.proofs.lemmas.Bool.{and_parts, true≢false}

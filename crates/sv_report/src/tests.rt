@@ -276,7 +276,7 @@ fn nothing(alloc: Global) -> Reply
     }
 }
 
-// A recorder records recording 0. Lane 1 submits it and waits for a fence.
+// Recorder 2 records recording 0. Lane 1 calls a submit without batches, and waits for a fence.
 fn trace(alloc: Global) -> Result<Trace, AllocError> {
     let recording = Recording {
         rec: 0,

@@ -80,7 +80,7 @@ impl CellState {
         ensures step { self.new.step ≡ self.old.step }
         ensures stands { OnOk result ((story : Story) (epoch : ℕ) → AreNext story epoch accesses.now → StandsFor story epoch self.old
             → StandsFor (recorded story accesses.now) epoch self.new) }
-        ensures fault { IfErr result (λ e. self.new.entries.items ≡ self.old.entries.items) }
+        ensures fault { IfErr result (λ e. (self.new.entries.items ≡ self.old.entries.items) × (self.new.written ≡ self.old.written)) }
     {
         let alloc = *self.entries.allocator();
         let mut more = entries_of(alloc, accesses)?;

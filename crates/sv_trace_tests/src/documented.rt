@@ -3,7 +3,11 @@ use crate::refusals::refusal_of;
 use std::test::Fail;
 
 // Lines of docs/TRACE.md, and the number of the refusal of each that it says: 0 where it is taken.
-static EXAMPLES: [(&str, u64); 55] = [
+static EXAMPLES: [(&str, u64); 59] = [
+    ("{\"op\":\"end\",\"rec\":", 1),
+    ("{\"op\":\"end\",\"rec\":\"0\"}", 2),
+    ("{\"op\":\"semaphore\",\"sem\":0,\"kind\":\"fence\"}", 3),
+    ("{\"op\":\"end\",\"rec\":65536}", 4),
     ("{\"op\":\"queue\",\"queue\":0,\"family\":0,\"lane\":0}", 0),
     ("{\"op\":\"buffer\",\"res\":0,\"size\":64}", 0),
     (
