@@ -167,7 +167,7 @@ fn settles(e: &Entry, x: &Access, group: Option<&Group>) -> bool
     requires own { IfSome group (λ g. IsOwn x.now g.now) }
     ensures { (cell : Cell) (deps : List Placed) (step : ℕ) → IsEarlier deps cell x.now (option_copied group.entry)
         → Stands cell e.now.access deps step e.now.reached
-        → IsTrue result → SettlesFor (deps ++ own_deps (option_copied group.entry)) cell x.now e.now.access }
+        → IsTrue result ↔ SettlesFor (deps ++ own_deps (option_copied group.entry)) cell x.now e.now.access }
 {
     let earlier = writes(e.access.what) && e.access.step < x.step;
     earlier && direct(e, x, group)
@@ -178,6 +178,7 @@ fn settles(e: &Entry, x: &Access, group: Option<&Group>) -> bool
 fn conflicting(entries: usize, written: usize, what: What) -> usize
     ensures within { result ≤ entries }
     ensures rest { (k : ℕ) → result ≤ k → k < entries → (written ≤ k) × (chain.writes what ≡ false) }
+    ensures few { chain.writes what ≡ false → result ≤ written }
 {
     if writes(what) || entries < written {
         entries

@@ -35,7 +35,7 @@ loop-i-preserved-then-settles c = λ story epoch step ready reads.
     let kept = c.loop-i.invariant story epoch step ready reads in
     let part = has_later_slice c.args.entries.now (c.loop-i.i - 1) c.index-entries-i.result (omega arith) c.index-entries-i.is ready.lists.in_order in (
       settled_by (story.deps ++ own_deps (option_copied c.args.group)) story.cell c.args.x.now c.args.entries.now (c.loop-i.i - 1) c.index-entries-i.result (omega arith) c.index-entries-i.is
-          (c.settles.ensures story.cell story.deps step ready.earlier (ready.each c.index-entries-i.result part.listed) c.if-settles.true),
+          ((c.settles.ensures story.cell story.deps step ready.earlier (ready.each c.index-entries-i.result part.listed)).0 c.if-settles.true),
       clear_step (extended story (own_deps (option_copied c.args.group))) epoch c.args.entries.now c.args.x.now c.loop-i.i c.index-entries-i.result
           (rw (← c.index-entries-i.is) (c.races.ensures.clear c.if-races.false story epoch step c.args.entries.now ready part)) kept.1,
     )
