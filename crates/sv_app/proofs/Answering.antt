@@ -21,7 +21,7 @@ use Rattle.sv_model.specs.declared.work.Step.{Step}
 use Rattle.sv_model.proofs.Works.{work_below}
 use Rattle.sv_report.specs.Lines.{publish_line, call_line, report_line, total_line}
 use Rattle.sv_report.specs.Replies.{entries, reply_text}
-use Rattle.sv_report.specs.Text.{event_line, events_text, history_text, note_count, report_count}
+use Rattle.sv_report.specs.Text.{event_line, events_text, history_text, report_count}
 use Rattle.sv_space.proofs.Joining.{spots_none, runs_none}
 use Rattle.sv_app.specs.Accepted.{IsAccepted}
 use Rattle.sv_app.specs.Answer.{IsTextOf, status_of}
@@ -112,12 +112,6 @@ reports_counted : (r s : Reply) → report_count (r ∷ s ∷ []) ≡ length r.r
 reports_counted r s =
     let a = sum_by-cons (λ (x : Reply). length x.reports) r (s ∷ []) in
     let b = sum_by-cons (λ (x : Reply). length x.reports) s [] in
-    omega (arith, a, b)
-
-notes_counted : (r s : Reply) → note_count (r ∷ s ∷ []) ≡ length r.notes + length s.notes
-notes_counted r s =
-    let a = sum_by-cons (λ (x : Reply). length x.notes) r (s ∷ []) in
-    let b = sum_by-cons (λ (x : Reply). length x.notes) s [] in
     omega (arith, a, b)
 
 not_zero : (n : ℕ) → 0 < n → (n == 0) ≡ false

@@ -47,10 +47,6 @@ trace_more : (newest : Line) (before : List Line) → trace_of (newest ∷ befor
 unfolding trace_of
 trace_more newest before = refl
 
-trace_none : trace_of [] ≡ no_lines
-unfolding trace_of
-trace_none = refl
-
 -- the tests of a line that is the next one
 
 first_of_three : (a b c : Bool) → (a && b && c) ≡ true → a ≡ true
