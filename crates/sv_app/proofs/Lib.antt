@@ -1,9 +1,2 @@
-pub mod Newest
 pub mod LineByLine
-pub mod Replies
-pub mod BoundSteps
-pub mod LineLoop
-pub mod TraceOf
-pub mod TextOrder
-pub mod WholeWork
-pub mod Answering
+pub mod NextEvents

@@ -1,49 +1,49 @@
 -- What is written for a text, and with which status.
-use Rattle.std.specs.Prelude.{ℕ, Bool, ◌≡◌, ◌==◌, ◌&&◌, if◌then◌else◌, List, ◌++◌, Result, Ok, Err, codes, length}
-use Rattle.std.specs.Fmt.{decimal}
+use Rattle.std.specs.Prelude.{ℕ, Bool, ◌≡◌, ◌==◌, ◌&&◌, if◌then◌else◌, List, Result, Ok, Err, length}
+use Rattle.std.specs.List.{list_all}
 use Rattle.sv_model.specs.Flow.{held_items}
 use Rattle.sv_model.specs.History.{IsWhole}
-use Rattle.sv_model.specs.declared.line.Line.{Line}
+use Rattle.sv_model.specs.Lawful.{IsLawful}
+use Rattle.sv_model.specs.Replies.{AreReplies}
+use Rattle.sv_model.specs.declared.line.Mark.{Mark}
 use Rattle.sv_model.specs.declared.line.Trace.{Trace}
+use Rattle.sv_model.specs.declared.refusal.Refusal.{Refusal}
 use Rattle.sv_model.specs.declared.work.Held.{Held}
 use Rattle.sv_model.specs.declared.work.Reply.{Reply}
-use Rattle.sv_report.specs.Text.{history_text, note_count, report_count}
-use Rattle.sv_app.specs.declared.outcome.Reason.{Reason}
-use Rattle.sv_app.specs.declared.outcome.Reason.TheVariants.{BadJson, NotBuilt, Unfinished}
-use Rattle.sv_app.specs.declared.outcome.Rejected.{Rejected}
+use Rattle.sv_report.specs.Lines.{refusal_line}
+use Rattle.sv_report.specs.Text.{history_text}
+use Rattle.sv_rules.specs.Outcome.{IsOutcomeOf}
 use Rattle.sv_app.specs.declared.status.Status.{Status}
 use Rattle.sv_app.specs.declared.status.Status.TheVariants.{Clean, Found, Refused}
-use Rattle.sv_app.specs.Outcome.{IsOutcomeOf}
-use Rattle.sv_app.specs.Replies.{AreReplies}
-use Rattle.sv_app.specs.Trace.{trace_of}
 
-abbrev pub reason_text : Reason → List ℕ
-reason_text BadJson = codes "1 BadJson"
-reason_text NotBuilt = codes "16 NotBuilt"
-reason_text Unfinished = codes "15 Unfinished"
+-- the reply has no report and no note
+abbrev pub is_silent : Reply → Bool
+is_silent reply = length reply.reports == 0 && length reply.notes == 0
 
--- the one line of a refused text
-unfoldable pub rejected_line : Rejected → List ℕ
-rejected_line r = codes "line " ++ decimal r.line ++ codes " refused " ++ reason_text r.reason ++ codes "\n"
-
+-- there is no report, no note and no held item
 abbrev pub is_clean : List Reply → List Held → Bool
-is_clean replies held = report_count replies == 0 && note_count replies == 0 && length held == 0
+is_clean replies held = list_all is_silent replies && length held == 0
 
 -- Found where there is a report, a note or a held item
 abbrev pub status_of : List Reply → List Held → Status
 status_of replies held = if is_clean replies held then Clean else Found
 
--- the status of a trace, and its text: its text order is a whole history, which is printed with the reply to each event and what is held at the end
-abbrev pub IsTextOf : Trace → Status → List ℕ → Type 0
-IsTextOf t status text = IsWhole t t.text_order × (replies : List Reply) × AreReplies t t.text_order replies
-    × (status ≡ status_of replies (held_items t t.text_order))
-    × (text ≡ history_text t t.text_order replies (held_items t t.text_order))
+-- The text of a whole history of a trace, and its status: each event is printed with the reply to it, and then what is
+-- held at the end.
+pub record IsTextOf (t : Trace) (history : List Mark) (status : Status) (text : List ℕ) : Type 0 where
+  pub whole : IsWhole t history
+  pub replies : List Reply
+  pub answered : AreReplies t history replies
+  pub has_status : status ≡ status_of replies (held_items t history)
+  pub has_text : text ≡ history_text t history replies (held_items t history)
 
--- what is written for an outcome, and the status
-abbrev pub IsAnswerOf : Result (List Line) Rejected → Status → List ℕ → Type 0
-IsAnswerOf (Err rejected) status text = (status ≡ Refused) × (text ≡ rejected_line rejected)
-IsAnswerOf (Ok lines) status text = IsTextOf (trace_of lines) status text
+-- what is written for an outcome, and the status: the text of the trace, which is lawful, in the order of its lines, or
+-- the line of the refusal
+abbrev pub IsAnswerOf : Result Trace Refusal → Status → List ℕ → Type 0
+IsAnswerOf (Err refusal) status text = (status ≡ Refused) × (text ≡ refusal_line refusal)
+IsAnswerOf (Ok t) status text = IsLawful t × IsTextOf t t.text_order status text
 
 -- the text is the answer to these bytes, with this status
 abbrev pub IsAnswerTo : List ℕ → Status → List ℕ → Type 0
-IsAnswerTo bytes status text = (outcome : Result (List Line) Rejected) × IsOutcomeOf bytes outcome × IsAnswerOf outcome status text
+IsAnswerTo bytes status text = (outcome : Result Trace Refusal) × IsOutcomeOf bytes outcome
+    × IsAnswerOf outcome status text

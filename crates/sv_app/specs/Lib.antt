@@ -1,12 +1,5 @@
-pub mod Accepted
 pub mod Answer
-pub mod Outcome
-pub mod Printed
-pub mod Replies
-pub mod Running
+pub mod Reading
 pub mod Run
 pub mod Status
-pub mod Taking
-pub mod Trace
 pub mod Words
-pub mod Work

@@ -26,8 +26,20 @@ IsSilent WriteFault = ⊥
 IsSilent Memory = ⊤
 IsSilent TooLong = ⊤
 
+-- the status of a run that wrote its whole answer, or found no memory for it
+abbrev pub IsAnsweredOrMemory : Status → Type 0
+IsAnsweredOrMemory Clean = ⊤
+IsAnsweredOrMemory Found = ⊤
+IsAnsweredOrMemory Refused = ⊤
+IsAnsweredOrMemory Usage = ⊥
+IsAnsweredOrMemory ReadFault = ⊥
+IsAnsweredOrMemory WriteFault = ⊥
+IsAnsweredOrMemory Memory = ⊤
+IsAnsweredOrMemory TooLong = ⊥
+
 -- the bytes are all that the source had left, and it came to its end
-pub record GaveAll (bytes : List ℕ) (old_left new_left : Option (List ℕ)) (old_given new_given : ℕ) (at_end : Bool) : Type 0 where
+pub record GaveAll (bytes : List ℕ) (old_left new_left : Option (List ℕ)) (old_given new_given : ℕ) (at_end : Bool)
+    : Type 0 where
   pub all : IfSome old_left (λ left. left ≡ bytes)
   pub nothing_left : IsAtEnd new_left
   pub given : new_given ≡ old_given + length bytes

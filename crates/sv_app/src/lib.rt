@@ -1,15 +1,12 @@
 //! The validator from bytes to bytes: what is read, what is accepted and what is written.
 #![tactic(auto)]
 
-mod accept;
-mod accepted;
 mod answer;
-mod outcome;
-mod reply;
+mod reading;
+mod recording;
 mod run;
-mod running;
 mod status;
-mod steps;
+mod validating;
 mod words;
 
 pub use run::check_run;

@@ -28,6 +28,20 @@ const END: &str = "{\"op\":\"end\",\"rec\":0}\n";
 
 const SUBMIT: &str = "{\"op\":\"submit\",\"lane\":0,\"queue\":0,\"batches\":[{\"recs\":[0]}]}\n";
 
+const FENCE: &str = "{\"op\":\"fence\",\"fence\":0}\n";
+
+const WAIT_FENCE: &str = "{\"op\":\"wait_fence\",\"lane\":0,\"fence\":0}\n";
+
+const IMAGE: &str = "{\"op\":\"image\",\"res\":1,\"mips\":1,\"layers\":1}\n";
+
+const IMAGE_READ: &str =
+    "{\"op\":\"work\",\"rec\":0,\"accesses\":[{\"res\":1,\"stage\":\"fragment_shader\",\"access\":\"shader_sampled_read\",\"mip\":0,\"mips\":1,\"layer\":0,\"layers\":1,\"layout\":\"shader_read_only_optimal\"}]}\n";
+
+const UNDEFINED_FOUND: &str =
+    "  note layout res 1 mip 0 layers 0..1 shader_sampled_read@fragment_shader 1.0.0 rec 0 cmd 0 declared shader_read_only_optimal found undefined\n";
+
+const ONE_NOTE_OF_2: &str = "total events 2 reports 0 notes 1 held 0\n";
+
 const WRITE_THEN_READ: &[&str] = &[
     QUEUE,
     BUFFER,
@@ -92,7 +106,7 @@ fn ran(alloc: Global, words: &[&str], text: Vec<u8>) -> Result<(u8, Vec<u8>), Al
 
 #[test]
 fn answers_texts(rt: HostRuntime) -> Result<(), Fail> {
-    let table: [(&[&str], u8, &[&str]); 9] = [
+    let table: [(&[&str], u8, &[&str]); 12] = [
         (
             WRITE_THEN_READ,
             1,
@@ -183,7 +197,26 @@ fn answers_texts(rt: HostRuntime) -> Result<(), Fail> {
             0,
             &[PUBLISHED, SUBMITTED, NONE_OF_2],
         ),
-        (&["[]"], 2, &["line 1 refused 16 NotBuilt\n"]),
+        (&["[]"], 2, &["line 1 refused 2 BadShape\n"]),
+        (
+            &[FENCE, WAIT_FENCE],
+            1,
+            &[
+                "event 0 lane 0 call 0 wait_fence fence 0\n",
+                "held lane 0 call 0\n",
+                "total events 1 reports 0 notes 0 held 1\n",
+            ],
+        ),
+        (
+            &[QUEUE, IMAGE, BEGIN, IMAGE_READ, END, SUBMIT],
+            1,
+            &[PUBLISHED, SUBMITTED, UNDEFINED_FOUND, ONE_NOTE_OF_2],
+        ),
+        (
+            &[QUEUE, BUFFER, BUFFER],
+            2,
+            &["line 3 refused 6 DeclaredTwice\n"],
+        ),
     ];
     for (text, number, written) in table {
         let text = joined(rt.alloc(), text)?;

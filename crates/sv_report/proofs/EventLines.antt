@@ -4,7 +4,7 @@ use Rattle.std.proofs.lemmas.List.{drop_all}
 use Rattle.sv_model.specs.declared.line.Trace.{Trace}
 use Rattle.sv_model.specs.declared.line.Mark.{Mark}
 use Rattle.sv_model.specs.declared.work.Reply.{Reply}
-use Rattle.sv_report.specs.Replies.{reply_text, ReplyHasNames}
+use Rattle.sv_report.specs.Replies.{reply_text}
 use Rattle.sv_report.specs.Text.{event_line, events_text}
 use Rattle.sv_report.proofs.Due.{item_first, line_moves}
 
@@ -23,7 +23,3 @@ event_moves t i d r marks replies printed middle after whole h same e to_middle 
 pub events_end : (t : Trace) (i : ℕ) (marks : List Mark) (replies : List Reply) (printed whole : List ℕ) → length marks ≤ i → printed ++ events_text t i (drop i marks) (drop i replies) ≡ whole → printed ≡ whole
 unfolding events_text
 events_end t i marks replies printed whole h e = sym (append-nil printed) ∙ sym (ap (λ ms. printed ++ events_text t i ms (drop i replies)) (drop_all i marks h)) ∙ e
-
--- each reply of the list has names
-pub names_at : (i : ℕ) (r : Reply) (replies : List Reply) → i < length replies → All ReplyHasNames replies → r ≡ get_or replies i r → ReplyHasNames r
-names_at i r replies h all is = subst ReplyHasNames (sym is) (all i r h)

@@ -1,5 +1,5 @@
 -- The printed lines of notes and of held items.
-use Rattle.std.specs.Prelude.{ℕ, ◌<◌, List, ◌++◌, codes, Option, None, Some}
+use Rattle.std.specs.Prelude.{ℕ, List, ◌++◌, codes, Option, None, Some}
 use Rattle.std.specs.Fmt.{decimal}
 use Rattle.sv_mask.specs.Names.{layout_text}
 use Rattle.sv_mask.specs.declared.layout.Layout.{Layout}
@@ -18,7 +18,7 @@ use Rattle.sv_model.specs.declared.work.TimelineNote.{TimelineNote}
 use Rattle.sv_model.specs.declared.work.FenceNote.{FenceNote}
 use Rattle.sv_model.specs.declared.work.Held.{Held}
 use Rattle.sv_model.specs.declared.work.Held.TheVariants as held
-use Rattle.sv_report.specs.Pieces.{HasName, area_text, usage_word, what_text, place_text}
+use Rattle.sv_report.specs.Pieces.{area_text, usage_word, what_text, place_text}
 
 -- an element without a transition is a barrier
 unfoldable pub element_text : Option What → List ℕ
@@ -78,24 +78,6 @@ note_line (note.Owner n) = owner_note_line n
 note_line (note.Event n) = event_note_line n
 note_line (note.Timeline n) = timeline_note_line n
 note_line (note.Fence n) = fence_note_line n
-
-abbrev pub ElementHasName : Option What → Type 0
-ElementHasName None = Unit {0}
-ElementHasName (Some what) = HasName what
-
-abbrev pub ActionHasName : OwnerWhat → Type 0
-ActionHasName (action.Use u) = u.0 < 43
-ActionHasName action.Transition = Unit {0}
-ActionHasName action.Release = Unit {0}
-ActionHasName action.Acquire = Unit {0}
-
--- the usage in the note, where there is one, is one of those that have names
-abbrev pub NoteHasName : Note → Type 0
-NoteHasName (note.Layout n) = ElementHasName n.what
-NoteHasName (note.Owner n) = ActionHasName n.what
-NoteHasName (note.Event n) = Unit {0}
-NoteHasName (note.Timeline n) = Unit {0}
-NoteHasName (note.Fence n) = Unit {0}
 
 unfoldable pub held_line : Held → List ℕ
 held_line (held.Call lane index) = codes "held lane " ++ decimal lane ++ codes " call " ++ decimal index ++ codes "\n"

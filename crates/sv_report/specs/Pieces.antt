@@ -1,5 +1,5 @@
 -- What the printed lines are made of. Numbers are decimal.
-use Rattle.std.specs.Prelude.{ℕ, ◌+◌, ◌<◌, List, ◌++◌, codes}
+use Rattle.std.specs.Prelude.{ℕ, ◌+◌, List, [], ◌++◌, codes, nat_lt, if◌then◌else◌}
 use Rattle.std.specs.Fmt.{decimal}
 use Rattle.sv_mask.specs.Names.{usage_text}
 use Rattle.sv_mask.specs.declared.usage.Usage.{Usage}
@@ -22,18 +22,13 @@ unfoldable pub area_text : Area → List ℕ
 area_text (area.Bytes res span) = codes "res " ++ decimal res ++ codes " bytes " ++ decimal span.start ++ codes ".." ++ decimal span.end
 area_text (area.Image res cells) = codes "res " ++ decimal res ++ codes " mip " ++ decimal cells.mip ++ codes " layers " ++ decimal cells.layer ++ codes ".." ++ decimal (cells.layer + cells.layers)
 
--- a usage by the names of its access and its stage
+-- a usage by the names of its access and its stage; a number that is no usage has none
 unfoldable pub usage_word : Usage → List ℕ
-usage_word u = (usage_text u.0).0 ++ codes "@" ++ (usage_text u.0).1
+usage_word u = if nat_lt u.0 43 then (usage_text u.0).0 ++ codes "@" ++ (usage_text u.0).1 else []
 
 unfoldable pub what_text : What → List ℕ
 what_text (part.Use u) = usage_word u
 what_text part.Transition = codes "layout_transition"
-
--- the usage is one of those that have names
-abbrev pub HasName : What → Type 0
-HasName (part.Use u) = u.0 < 43
-HasName part.Transition = Unit {0}
 
 -- the event of the submit, the batch in it, the place of the recording in the batch, the recording, the command
 unfoldable pub place_text : Place → List ℕ

@@ -1,13 +1,12 @@
 -- The printed lines of a reply: its reports in order, and each note where it stands among them.
-use Rattle.std.specs.Prelude.{ℕ, ◌+◌, All, List, [], ◌∷◌, ◌++◌, length, drop, take_while, nat_le}
+use Rattle.std.specs.Prelude.{ℕ, ◌+◌, List, [], ◌∷◌, ◌++◌, length, drop, take_while, nat_le}
 use Rattle.std.specs.List.{flat_map}
 use Rattle.sv_model.specs.declared.work.Report.{Report}
 use Rattle.sv_model.specs.declared.work.Reply.{Reply}
 use Rattle.sv_model.specs.declared.work.Note.{Note}
 use Rattle.sv_model.specs.declared.work.Note.TheVariants as note
-use Rattle.sv_report.specs.Pieces.{HasName}
 use Rattle.sv_report.specs.Lines.{report_line}
-use Rattle.sv_report.specs.Notes.{note_line, NoteHasName}
+use Rattle.sv_report.specs.Notes.{note_line}
 
 -- how many of the reply's reports stand before the note
 abbrev pub reports_before : Note → ℕ
@@ -28,10 +27,3 @@ entries number (r ∷ rs) notes = flat_map note_line (due number notes) ++ repor
 
 abbrev pub reply_text : Reply → List ℕ
 reply_text reply = entries 0 reply.reports reply.notes
-
--- the usages of a report are among those that have names
-abbrev pub ReportHasNames : Report → Type 0
-ReportHasNames r = HasName r.later.what × HasName r.earlier.what
-
-abbrev pub ReplyHasNames : Reply → Type 0
-ReplyHasNames r = All ReportHasNames r.reports × All NoteHasName r.notes

@@ -1,18 +1,18 @@
 // The lines of the events of a history.
-ghost use Rattle.std.specs.Prelude.{◌≡◌, ◌++◌, OnOk, All, length, string_bytes};
+ghost use Rattle.std.specs.Prelude.{◌≡◌, ◌++◌, IfOk, OnOk, length, string_bytes};
 ghost use Rattle.std.specs.Option.{option_copied, option_map};
 ghost use Rattle.sv_model.specs.Declarations.{recording_of, call_of};
 ghost use Rattle.std.specs.List.{flat_map};
 ghost use Rattle.sv_report.specs.Notes.{held_line};
-ghost use Rattle.sv_report.specs.Replies.{ReplyHasNames};
 ghost use Rattle.sv_report.specs.Text.{event_line, events_text, report_count as reports_of, note_count as notes_of, history_text};
 
 use crate::lines::{push_call, push_publish, push_total};
 use crate::notes::push_held;
 use crate::replies::push_reply;
-use std::alloc::AllocError;
+use std::alloc::{AllocError, Global};
 use sv_model::line::{Line, Mark, Trace};
 use sv_model::work::{Held, Reply};
+use sv_range::List;
 
 // The recorder of the recording with this number.
 fn recorder_of(trace: &Trace, rec: u32) -> Option<u32>
@@ -67,7 +67,6 @@ pub fn push_events(
     replies: &[Reply],
 ) -> Result<(), AllocError>
     requires one_each { length replies.now ≡ length marks.now }
-    requires names { All ReplyHasNames replies.now }
     ensures { OnOk result (string_bytes text.new ≡ string_bytes text.old ++ events_text trace.now 0 marks.now replies.now) }
 {
     for i in 0..marks.len() {
@@ -119,7 +118,6 @@ pub fn push_history(
     held: &[Held],
 ) -> Result<(), AllocError>
     requires one_each { length replies.now ≡ length marks.now }
-    requires names { All ReplyHasNames replies.now }
     ensures { OnOk result (string_bytes text.new ≡ string_bytes text.old ++ history_text trace.now marks.now replies.now held.now) }
 {
     push_events(text, trace, marks, replies)?;
@@ -131,4 +129,27 @@ pub fn push_history(
         note_count(replies),
         held.len() as u128,
     )
+}
+
+/// The text of a history of the trace, as bytes: each event's line and its reply under it, the held items, and the
+/// total. There is one reply for each event.
+pub fn text(
+    alloc: Global,
+    marks: &List<Mark>,
+    replies: &List<Reply>,
+    held: &List<Held>,
+    trace: &Trace,
+) -> Result<List<u8>, AllocError>
+    requires { length replies.now ≡ length marks.now }
+    ensures { IfOk result (λ text. text ≡ history_text trace.now marks.now replies.now held.now) }
+{
+    let mut text = String::new(alloc);
+    push_history(
+        &mut text,
+        trace,
+        marks.as_slice(),
+        replies.as_slice(),
+        held.as_slice(),
+    )?;
+    Ok(List::from_vec(text.into_bytes()))
 }

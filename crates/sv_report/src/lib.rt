@@ -10,11 +10,12 @@ mod pieces;
 mod refusals;
 mod replies;
 
-pub use events::{push_all_held, push_event, push_events, push_history};
+pub use events::{push_all_held, push_event, push_events, push_history, text};
 pub use lines::{push_call, push_publish, push_report, push_total};
 pub use notes::{push_held, push_note};
 pub use refusals::{push_refusal, refusal_text};
 pub use replies::push_reply;
+pub use sv_grouping::group;
 
 #[cfg(test)]
 mod tests;

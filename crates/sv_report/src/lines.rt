@@ -1,6 +1,5 @@
 // The lines of events and their replies, and the total.
 ghost use Rattle.std.specs.Prelude.{◌≡◌, ◌++◌, OnOk, string_bytes};
-ghost use Rattle.sv_report.specs.Pieces.{HasName};
 ghost use Rattle.sv_report.specs.Lines.{publish_line, call_text, call_line, report_line, count_text, total_line};
 
 use crate::pieces::{kind_word, push_access, push_area};
@@ -54,8 +53,6 @@ pub fn push_call(
 /// Appends the line of a report.
 #[tactic(auto, unfolding(crate::specs::Lines::report_line))]
 pub fn push_report(text: &mut String, report: &Report) -> Result<(), AllocError>
-    requires later { HasName report.now.later.what }
-    requires earlier { HasName report.now.earlier.what }
     ensures { OnOk result (string_bytes text.new ≡ string_bytes text.old ++ report_line report.now) }
 {
     let kind = kind_word(report.kind);

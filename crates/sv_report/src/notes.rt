@@ -1,6 +1,6 @@
 // The lines of notes and of held items.
 ghost use Rattle.std.specs.Prelude.{◌≡◌, ◌++◌, OnOk, string_bytes};
-ghost use Rattle.sv_report.specs.Notes.{ElementHasName, ActionHasName, NoteHasName, element_text, action_text, owner_text, setter_text, note_start, found_text, values_text, signal_text, layout_note_line, owner_note_line, event_note_line, timeline_note_line, fence_note_line, note_line, held_line};
+ghost use Rattle.sv_report.specs.Notes.{element_text, action_text, owner_text, setter_text, note_start, found_text, values_text, signal_text, layout_note_line, owner_note_line, event_note_line, timeline_note_line, fence_note_line, note_line, held_line};
 
 use crate::pieces::{push_area, push_place, push_usage, push_what};
 use std::alloc::AllocError;
@@ -13,7 +13,6 @@ use sv_name::layout_text;
 
 #[tactic(auto, unfolding(crate::specs::Notes::element_text))]
 fn push_element(text: &mut String, what: Option<What>) -> Result<(), AllocError>
-    requires { ElementHasName what }
     ensures { OnOk result (string_bytes text.new ≡ string_bytes text.old ++ element_text what) }
 {
     match what {
@@ -24,7 +23,6 @@ fn push_element(text: &mut String, what: Option<What>) -> Result<(), AllocError>
 
 #[tactic(auto, unfolding(crate::specs::Notes::action_text))]
 fn push_action(text: &mut String, action: OwnerWhat) -> Result<(), AllocError>
-    requires { ActionHasName action }
     ensures { OnOk result (string_bytes text.new ≡ string_bytes text.old ++ action_text action) }
 {
     match action {
@@ -67,7 +65,6 @@ fn push_found(text: &mut String, declared: Layout, found: Layout) -> Result<(), 
 
 #[tactic(auto, unfolding(crate::specs::Notes::layout_note_line))]
 fn push_layout_note(text: &mut String, note: &LayoutNote) -> Result<(), AllocError>
-    requires { ElementHasName note.now.what }
     ensures { OnOk result (string_bytes text.new ≡ string_bytes text.old ++ layout_note_line note.now) }
 {
     push_note_start(text, "layout", note.area)?;
@@ -80,7 +77,6 @@ fn push_layout_note(text: &mut String, note: &LayoutNote) -> Result<(), AllocErr
 
 #[tactic(auto, unfolding(crate::specs::Notes::owner_note_line))]
 fn push_owner_note(text: &mut String, note: &OwnerNote) -> Result<(), AllocError>
-    requires { ActionHasName note.now.what }
     ensures { OnOk result (string_bytes text.new ≡ string_bytes text.old ++ owner_note_line note.now) }
 {
     push_note_start(text, "owner", note.area)?;
@@ -148,7 +144,6 @@ fn push_fence_note(text: &mut String, note: &FenceNote) -> Result<(), AllocError
 /// Appends the line of a note.
 #[tactic(auto, unfolding(crate::specs::Notes::note_line))]
 pub fn push_note(text: &mut String, note: &Note) -> Result<(), AllocError>
-    requires { NoteHasName note.now }
     ensures { OnOk result (string_bytes text.new ≡ string_bytes text.old ++ note_line note.now) }
 {
     match *note {

@@ -1,6 +1,6 @@
 // What the printed lines are made of.
-ghost use Rattle.std.specs.Prelude.{◌≡◌, ◌<◌, ◌++◌, OnOk, string_bytes};
-ghost use Rattle.sv_report.specs.Pieces.{HasName, kind_text, area_text, usage_word, what_text, place_text, access_text};
+ghost use Rattle.std.specs.Prelude.{◌≡◌, ◌++◌, OnOk, string_bytes};
+ghost use Rattle.sv_report.specs.Pieces.{kind_text, area_text, usage_word, what_text, place_text, access_text};
 
 use std::alloc::AllocError;
 use sv_mask::Usage;
@@ -36,20 +36,23 @@ pub(crate) fn push_area(text: &mut String, area: Area) -> Result<(), AllocError>
     }
 }
 
+// The number of a usage is below 43; a greater one has no name.
 #[tactic(auto, unfolding(crate::specs::Pieces::usage_word))]
 pub(crate) fn push_usage(text: &mut String, usage: Usage) -> Result<(), AllocError>
-    requires { usage.0 < 43 }
     ensures { OnOk result (string_bytes text.new ≡ string_bytes text.old ++ usage_word usage) }
 {
-    let (access, stage) = usage_text(usage);
-    text.push_str(access)?;
-    text.push_str("@")?;
-    text.push_str(stage)
+    if usage.0 < 43 {
+        let (access, stage) = usage_text(usage);
+        text.push_str(access)?;
+        text.push_str("@")?;
+        text.push_str(stage)
+    } else {
+        Ok(())
+    }
 }
 
 #[tactic(auto, unfolding(crate::specs::Pieces::what_text))]
 pub(crate) fn push_what(text: &mut String, what: What) -> Result<(), AllocError>
-    requires { HasName what }
     ensures { OnOk result (string_bytes text.new ≡ string_bytes text.old ++ what_text what) }
 {
     match what {
@@ -70,7 +73,6 @@ pub(crate) fn push_place(text: &mut String, place: Place) -> Result<(), AllocErr
 
 #[tactic(auto, unfolding(crate::specs::Pieces::access_text))]
 pub(crate) fn push_access(text: &mut String, access: &Access) -> Result<(), AllocError>
-    requires { HasName access.now.what }
     ensures { OnOk result (string_bytes text.new ≡ string_bytes text.old ++ access_text access.now) }
 {
     push_what(text, access.what)?;

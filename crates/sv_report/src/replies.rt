@@ -1,8 +1,8 @@
 // The lines of a reply.
-ghost use Rattle.std.specs.Prelude.{◌≡◌, ◌++◌, OnOk, IfOk, All, length, string_bytes};
+ghost use Rattle.std.specs.Prelude.{◌≡◌, ◌++◌, OnOk, IfOk, length, string_bytes};
 ghost use Rattle.std.specs.List.{flat_map};
-ghost use Rattle.sv_report.specs.Notes.{NoteHasName, note_line};
-ghost use Rattle.sv_report.specs.Replies.{ReportHasNames, reports_before, due, entries, reply_text};
+ghost use Rattle.sv_report.specs.Notes.{note_line};
+ghost use Rattle.sv_report.specs.Replies.{reports_before, due, entries, reply_text};
 
 use crate::lines::push_report;
 use crate::notes::push_note;
@@ -23,7 +23,6 @@ fn number_before(note: &Note) -> u64
 
 // Appends the lines of the notes that are due before the report with this number, and answers how many they are.
 fn push_due(text: &mut String, number: u64, notes: &[Note]) -> Result<usize, AllocError>
-    requires { All NoteHasName notes.now }
     ensures count { IfOk result (λ n. n ≡ length (due number notes.now)) }
     ensures lines { OnOk result (string_bytes text.new ≡ string_bytes text.old ++ flat_map note_line (due number notes.now)) }
 {
@@ -41,7 +40,6 @@ fn push_due(text: &mut String, number: u64, notes: &[Note]) -> Result<usize, All
 
 // Appends the lines of all these notes.
 fn push_notes(text: &mut String, notes: &[Note]) -> Result<(), AllocError>
-    requires { All NoteHasName notes.now }
     ensures { OnOk result (string_bytes text.new ≡ string_bytes text.old ++ flat_map note_line notes.now) }
 {
     for note in notes {
@@ -52,8 +50,6 @@ fn push_notes(text: &mut String, notes: &[Note]) -> Result<(), AllocError>
 
 /// Appends the lines of a reply: its reports in order, and each note where it stands among them.
 pub fn push_reply(text: &mut String, reply: &Reply) -> Result<(), AllocError>
-    requires reports { All ReportHasNames reply.now.reports }
-    requires notes { All NoteHasName reply.now.notes }
     ensures { OnOk result (string_bytes text.new ≡ string_bytes text.old ++ reply_text reply.now) }
 {
     let reports = reply.reports.as_slice();

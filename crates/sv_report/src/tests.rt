@@ -1,7 +1,4 @@
 ghost use Rattle.std.specs.Prelude.{◌≡◌, IfOk};
-ghost use Rattle.sv_report.specs.Pieces.{HasName};
-ghost use Rattle.sv_report.specs.Notes.{ActionHasName};
-ghost use Rattle.sv_report.specs.Replies.{ReportHasNames, ReplyHasNames};
 
 use super::*;
 use std::alloc::{AllocError, Global};
@@ -38,9 +35,7 @@ const PLACE: Place = Place {
     cmd: 5,
 };
 
-fn copies(access: Access16) -> What
-    ensures { HasName result }
-{
+fn copies(access: Access16) -> What {
     match Usage::of(Stage::Copy, access) {
         Some(usage) => What::Use(usage),
         None => What::Transition,
@@ -142,10 +137,7 @@ fn refusals_notes_and_held_items(rt: HostRuntime) -> Result<(), Fail> {
     Ok(())
 }
 
-fn action(what: What) -> OwnerWhat
-    requires { HasName what }
-    ensures { ActionHasName result }
-{
+fn action(what: What) -> OwnerWhat {
     match what {
         What::Use(usage) => OwnerWhat::Use(usage),
         What::Transition => OwnerWhat::Transition,
@@ -234,11 +226,7 @@ fn notes_on_events(rt: HostRuntime) -> Result<(), Fail> {
     Ok(())
 }
 
-fn race(kind: Kind, later: Access, earlier: Access) -> Report
-    requires later { HasName later.what }
-    requires earlier { HasName earlier.what }
-    ensures { ReportHasNames result }
-{
+fn race(kind: Kind, later: Access, earlier: Access) -> Report {
     Report {
         area: BYTES,
         later,
@@ -248,9 +236,7 @@ fn race(kind: Kind, later: Access, earlier: Access) -> Report
 }
 
 // A read after a write, a wait for an event that is unset, and a write after the read.
-fn reply(alloc: Global) -> Result<Reply, AllocError>
-    ensures { IfOk result ReplyHasNames }
-{
+fn reply(alloc: Global) -> Result<Reply, AllocError> {
     let first = access_at(0, copies(Access16::TransferWrite));
     let read = access_at(1, copies(Access16::TransferRead));
     let last = access_at(3, copies(Access16::TransferWrite));
@@ -267,9 +253,7 @@ fn reply(alloc: Global) -> Result<Reply, AllocError>
     })
 }
 
-fn nothing(alloc: Global) -> Reply
-    ensures { ReplyHasNames result }
-{
+fn nothing(alloc: Global) -> Reply {
     Reply {
         reports: List::new(alloc),
         notes: List::new(alloc),

@@ -1,23 +1,26 @@
 -- What a state stands for after each call.
-use Rattle.std.proofs.Common.{ℕ, zero, suc, IsTrue, false, ◌≡◌, ◌<◌, ◌≤◌, ◌+◌, ◌-◌, List, [], ◌∷◌, ◌++◌, ◌⊎◌, inl, inr, arith, refl, sym, ◌∙◌, ap, subst, Contains, length, get_or, map, Option, Some, None, IfSome, Bor, length-append, take}
-use Rattle.std.specs.List.{AllPairs}
+use Rattle.std.proofs.Common.{ℕ, IsTrue, false, true≢false, ◌≡◌, ◌<◌, ◌≤◌, ◌-◌, List, [], ◌++◌, inl, inr, arith, refl, sym, ◌∙◌, ap, subst, Contains, length, get_or, Option, Some, None, IfSome, Bor, length-append, map}
 use Rattle.std.specs.Option.{option_copied}
-use Rattle.std.proofs.lemmas.List.{get_or_append_left, get_or-append_right, take_more, map-append}
-use Rattle.std.proofs.lemmas.List.Elements.{Contains-append_left, Contains-append_right, Contains-append_cases, Contains-push_cases, Contains-get_or}
+use Rattle.std.proofs.lemmas.Bool.{cases_lt}
+use Rattle.std.proofs.lemmas.List.{get_or_append_left, get_or-append_right, get_or_default, length-map}
+use Rattle.std.proofs.Math.ListN.{get_or-map}
+use Rattle.std.proofs.lemmas.List.Elements.{Contains-append_cases, Contains-get_or}
 use Rattle.sv_model.specs.Cells.{covers, Within}
-use Rattle.sv_model.specs.Chain.{Placed, placed, own_deps, StartsAs, UpTo, writes}
-use Rattle.sv_model.specs.Order.{Story, Before, NoRaces, IsBelow, recorded}
+use Rattle.sv_model.specs.Chain.{Placed, placed, own_deps, UpTo}
+use Rattle.sv_model.specs.Order.{Story, Before, NoRaces, IsBelow}
+use Rattle.sv_model.specs.Kept.{IsKept, IsAtWrite}
+use Rattle.sv_model.proofs.Latest.{apart}
 use Rattle.sv_model.proofs.Transitions.{placed_dep, placed_step}
 use Rattle.sv_model.specs.declared.work.Access.{Access}
 use Rattle.sv_model.specs.declared.work.Cell.{Cell}
 use Rattle.sv_model.specs.declared.work.Group.{Group}
-use Rattle.sv_model.specs.declared.work.What.{What}
-use Rattle.sv_model.specs.declared.work.What.TheVariants.{Use, Transition}
 use Rattle.sv_state.specs.declared.entry.Entry.{Entry}
 use Rattle.sv_state.specs.declared.state.CellState.{CellState}
-use Rattle.sv_state.specs.Masks.{Stands}
-use Rattle.sv_state.specs.States.{AreListed, AreReadsFrom, EachStands, StandsFor, AreNext, AreNew, AllChanged, HasAdvanced, HasGoneOn, HasComeTo, HasGrown, IsReady, RangesHold}
-use Rattle.sv_state.proofs.Standing.{stands_new}
+use Rattle.sv_state.specs.Alike.{is_alike}
+use Rattle.sv_state.specs.declared.mask.Mask.{Mask}
+use Rattle.sv_state.specs.Masks.{AreReached, Stands}
+use Rattle.sv_state.specs.Contents.{Contents, Item, contents_of, item_of}
+use Rattle.sv_state.specs.States.{AreListed, IsAtReads, AreParted, EachStands, entries_of, StandsFor, AreLikeLast, AllChanged, HasAdvanced, HasGoneOn, HasComeTo, HasGrown, IsReady, RangesHold}
 
 -- entries that changed, but not their accesses
 module _ (R : Entry → Entry → Type 0) (same : (e f : Entry) → R e f → f.access ≡ e.access) (old new : List Entry) (all : AllChanged R old new) where
@@ -33,8 +36,9 @@ module _ (R : Entry → Entry → Type 0) (same : (e f : Entry) → R e f → f.
 
   pub lists_stay : {xs : List Access} {epoch : ℕ} → AreListed xs epoch old → AreListed xs epoch new
   lists_stay {xs} {epoch} lists = record {
-    listed = λ a on from. (let e = lists.listed a on from in let f = from_old e.0 e.1 in (f.0, f.1, same e.0 f.0 f.2 ∙ e.2));
+    listed = λ a on from kept. (let e = lists.listed a on from kept in let f = from_old e.0 e.1 in (f.0, f.1, same e.0 f.0 f.2 ∙ e.2));
     known = λ f on. (let e = to_old f on in subst (λ (a : Access). Contains xs a) (sym (same e.0 f e.2)) (lists.known e.0 e.1));
+    kept = λ f on. (let e = to_old f on in subst (λ (a : Access). IsKept xs a) (sym (same e.0 f e.2)) (lists.kept e.0 e.1));
     in_epoch = λ f on. (let e = to_old f on in subst (λ (a : Access). epoch ≤ a.step) (sym (same e.0 f e.2)) (lists.in_epoch e.0 e.1));
     in_order = λ i j d lt within. (
         let l = all.long in
@@ -43,169 +47,158 @@ module _ (R : Entry → Entry → Type 0) (same : (e f : Entry) → R e f → f.
         subst (λ (a : Access). Before (get_or new i d).access a) (sym at_j) (subst (λ (a : Access). Before a (get_or old j d).access) (sym at_i) (lists.in_order i j d lt (omega arith))));
   }
 
-  pub reads_stay : {from : ℕ} → AreReadsFrom from old → AreReadsFrom from new
-  reads_stay {from} reads k d le within =
-      let l = all.long in
-      ap (λ (a : Access). writes a.what) (same (get_or old k d) (get_or new k d) (all.each k d (omega arith))) ∙ reads k d le (omega arith)
-
   pub each_goes : (cell : Cell) (deps more : List Placed) (step next : ℕ) → ((e f : Entry) → R e f → Stands cell e.access deps step e.reached → Stands cell e.access more next f.reached) → EachStands cell deps step old → EachStands cell more next new
   each_goes cell deps more step next goes each f on =
       let e = to_old f on in
       subst (λ (a : Access). Stands cell a more next f.reached) (sym (same e.0 f e.2)) (goes e.0 f e.2 (each e.0 e.1))
 
--- a later step begins
-pub state_advanced : (old new : CellState) → old.step < new.step → new.written ≡ old.written → AllChanged HasAdvanced old.entries.items new.entries.items → HasComeTo new.step old new
-state_advanced old new lt kept all = record {
-  step = refl;
-  stands = λ story epoch st. record {
-    lists = lists_stay HasAdvanced (λ e f h. h.access) old.entries.items new.entries.items all st.lists;
-    up_to = λ d on. (let h = st.up_to d on in omega arith);
-    each = each_goes HasAdvanced (λ e f h. h.access) old.entries.items new.entries.items all story.cell story.deps story.deps old.step new.step (λ e f h. h.stands story.cell story.deps old.step new.step lt) st.each;
-    reads = subst (λ n. AreReadsFrom n new.entries.items) (sym kept) (reads_stay HasAdvanced (λ e f h. h.access) old.entries.items new.entries.items all st.reads);
-  };
+-- two lists of entries that changed so
+changed_both : (R : Entry → Entry → Type 0) (olds news more after : List Entry) → AllChanged R olds news → AllChanged R more after → AllChanged R (olds ++ more) (news ++ after)
+changed_both R olds news more after first second = record {
+  long = (let l = first.long in let m = second.long in let p = length-append olds more in let q = length-append news after in omega arith);
+  each = λ k d within. (
+      let l = first.long in
+      let p = length-append olds more in
+      elim (cases_lt k (length olds)) [
+        | inl low ↦ (
+            subst (λ (f : Entry). R (get_or (olds ++ more) k d) f) (sym (get_or_append_left news after d k (omega arith)))
+            (subst (λ (e : Entry). R e (get_or news k d)) (sym (get_or_append_left olds more d k low)) (first.each k d low)))
+        | inr high ↦ (
+            subst (λ (f : Entry). R (get_or (olds ++ more) k d) f) (sym (get_or-append_right news after (length olds) k d l high))
+            (subst (λ (e : Entry). R e (get_or after (k - length olds) d)) (sym (get_or-append_right olds more (length olds) k d refl high)) (second.each (k - length olds) d (omega arith))))
+      ]);
 }
+
+parted_stays : (R : Entry → Entry → Type 0) (same : (e f : Entry) → R e f → f.access ≡ e.access) (xs : List Access) (olds news more after : List Entry) → AllChanged R olds news → AllChanged R more after → AreParted xs olds more → AreParted xs news after
+parted_stays R same xs olds news more after first second parted = record {
+  written = λ f on. (let e = to_old R same olds news first f on in subst (λ (a : Access). IsAtWrite xs a) (sym (same e.0 f e.2)) (parted.written e.0 e.1));
+  reads = λ f on. (let e = to_old R same more after second f on in subst (λ (a : Access). IsAtReads xs a) (sym (same e.0 f e.2)) (parted.reads e.0 e.1));
+}
+
+-- entries that are like the last one stay so
+like_last_stays : (R : Entry → Entry → Type 0) (same : (e f : Entry) → R e f → f.access ≡ e.access) (olds news : List Entry) → AllChanged R olds news → AreLikeLast olds → AreLikeLast news
+like_last_stays R same olds news all alike k e l at_e at_l within =
+    let long = all.long in
+    let last : length news - 1 ≡ length olds - 1 = omega arith in
+    let n = length olds - 1 in
+    let d : Entry = get_or olds k e in
+    let m : Entry = get_or olds n e in
+    let old_e = same d (get_or news k e) (all.each k e (omega arith)) in
+    let old_l = same m (get_or news n e) (all.each n e (omega arith)) in
+    let is_e : e.access ≡ d.access = ap (λ (f : Entry). f.access) (sym at_e) ∙ old_e in
+    let is_l : l.access ≡ m.access = ap (λ (f : Entry). f.access) (sym at_l ∙ (ap (λ j. get_or news j l) last ∙ get_or_default news n l e (omega arith))) ∙ old_l in
+    subst (λ (a : Access). IsTrue (is_alike a l.access)) (sym is_e) (subst (λ (a : Access). IsTrue (is_alike d.access a)) (sym is_l)
+    (alike k d m (get_or_default olds k d e (omega arith)) (get_or_default olds n m e (omega arith)) (omega arith)))
+
+-- a later step begins
+pub state_advanced : (old new : CellState) → old.step < new.step → new.alike ≡ old.alike → AllChanged HasAdvanced old.written.items new.written.items → AllChanged HasAdvanced old.reads.items new.reads.items → HasComeTo new.step old new
+state_advanced old new lt same_alike first second = record {
+  step = refl;
+  stands = λ story epoch st. (
+      let all = changed_both HasAdvanced old.written.items new.written.items old.reads.items new.reads.items first second in
+      record {
+        lists = lists_stay HasAdvanced (λ e f h. h.access) (entries_of old) (entries_of new) all st.lists;
+        parted = parted_stays HasAdvanced (λ e f h. h.access) story.accesses old.written.items new.written.items old.reads.items new.reads.items first second st.parted;
+        up_to = λ d on. (let h = st.up_to d on in omega arith);
+        each = each_goes HasAdvanced (λ e f h. h.access) (entries_of old) (entries_of new) all story.cell story.deps story.deps old.step new.step (λ e f h. h.stands story.cell story.deps old.step new.step lt) st.each;
+        alike = λ t. like_last_stays HasAdvanced (λ e f h. h.access) old.written.items new.written.items first (st.alike (sym same_alike ∙ t));
+      });
+}
+
+-- entries that hold the same
+abbrev HoldSame : Entry → Entry → Type 0
+HoldSame e f = item_of f ≡ item_of e
+
+hold_same : (old new : List Entry) → map item_of new ≡ map item_of old → AllChanged HoldSame old new
+hold_same old new same = record {
+  long = sym (length-map new item_of) ∙ ap length same ∙ length-map old item_of;
+  each = λ k d within. sym (get_or-map item_of new k d) ∙ ap (λ (is : List Item). get_or is k (item_of d)) same ∙ get_or-map item_of old k d;
+}
+
+stands_same_item : (cell : Cell) (deps : List Placed) (step : ℕ) (e f : Entry) → HoldSame e f → Stands cell e.access deps step e.reached → Stands cell e.access deps step f.reached
+stands_same_item cell deps step e f same st = record {
+  up_to = st.up_to;
+  settled = subst (λ (i : Item). AreReached deps cell e.access (λ k. k < step) i.settled) (sym same) st.settled;
+  fresh = subst (λ (i : Item). AreReached deps cell e.access (λ k. k ≡ step) i.fresh) (sym same) st.fresh;
+}
+
+-- a state that holds the same stands for the same
+pub stands_same : (old new : CellState) → contents_of new ≡ contents_of old → (story : Story) (epoch : ℕ) → StandsFor story epoch old → StandsFor story epoch new
+stands_same old new same story epoch st =
+    let step : new.step ≡ old.step = ap (λ (c : Contents). c.step) same in
+    let first = hold_same old.written.items new.written.items (ap (λ (c : Contents). c.written) same) in
+    let second = hold_same old.reads.items new.reads.items (ap (λ (c : Contents). c.reads) same) in
+    let all = changed_both HoldSame old.written.items new.written.items old.reads.items new.reads.items first second in
+    record {
+      lists = lists_stay HoldSame (λ e f h. ap (λ (i : Item). i.access) h) (entries_of old) (entries_of new) all st.lists;
+      parted = parted_stays HoldSame (λ e f h. ap (λ (i : Item). i.access) h) story.accesses old.written.items new.written.items old.reads.items new.reads.items first second st.parted;
+      up_to = subst (λ n. UpTo story.deps n) (sym step) st.up_to;
+      each = subst (λ n. EachStands story.cell story.deps n (entries_of new)) (sym step)
+          (each_goes HoldSame (λ e f h. ap (λ (i : Item). i.access) h) (entries_of old) (entries_of new) all story.cell story.deps story.deps old.step old.step (stands_same_item story.cell story.deps old.step) st.each);
+      alike = λ t. like_last_stays HoldSame (λ e f h. ap (λ (i : Item). i.access) h) old.written.items new.written.items first (st.alike (sym (ap (λ (c : Contents). c.alike) same) ∙ t));
+    }
 
 up_to_more : (deps : List Placed) (g : Group) → UpTo deps g.step → UpTo (deps ++ placed g) g.step
 up_to_more deps g up d on = elim (Contains-append_cases deps (placed g) d on) [ inl old ↦ up d old | inr new ↦ (let s = placed_step g d new in omega arith) ]
 
 -- the entries go through a group of the present step
-pub state_grown : (at : Cell) (g : Group) (first old new : CellState) → HasComeTo g.step first old → new.step ≡ old.step → new.written ≡ old.written → AllChanged (HasGoneOn at g) old.entries.items new.entries.items → HasGrown at g first new
-state_grown at g first old new come same kept all = record {
+pub state_grown : (at : Cell) (g : Group) (first old new : CellState) → HasComeTo g.step first old → new.step ≡ old.step → new.alike ≡ old.alike → AllChanged (HasGoneOn at g) old.written.items new.written.items → AllChanged (HasGoneOn at g) old.reads.items new.reads.items → HasGrown at g first new
+state_grown at g first old new come same same_alike of_written of_reads = record {
   step = same ∙ come.step;
   stands = λ story epoch alike before.
       let st = come.stands story epoch before in
       let now : new.step ≡ g.step = same ∙ come.step in
+      let all = changed_both (HasGoneOn at g) old.written.items new.written.items old.reads.items new.reads.items of_written of_reads in
       record {
-        lists = lists_stay (HasGoneOn at g) (λ e f h. h.access) old.entries.items new.entries.items all st.lists;
+        lists = lists_stay (HasGoneOn at g) (λ e f h. h.access) (entries_of old) (entries_of new) all st.lists;
+        parted = parted_stays (HasGoneOn at g) (λ e f h. h.access) story.accesses old.written.items new.written.items old.reads.items new.reads.items of_written of_reads st.parted;
         up_to = subst (λ n. UpTo (story.deps ++ placed g) n) (sym now) (up_to_more story.deps g (subst (λ n. UpTo story.deps n) come.step st.up_to));
-        each = subst (λ n. EachStands story.cell (story.deps ++ placed g) n new.entries.items) (sym now)
-            (each_goes (HasGoneOn at g) (λ e f h. h.access) old.entries.items new.entries.items all story.cell story.deps (story.deps ++ placed g) g.step g.step (λ e f h. h.stands story.cell alike story.deps)
-            (subst (λ n. EachStands story.cell story.deps n old.entries.items) come.step st.each));
-        reads = subst (λ n. AreReadsFrom n new.entries.items) (sym kept) (reads_stay (HasGoneOn at g) (λ e f h. h.access) old.entries.items new.entries.items all st.reads);
+        each = subst (λ n. EachStands story.cell (story.deps ++ placed g) n (entries_of new)) (sym now)
+            (each_goes (HasGoneOn at g) (λ e f h. h.access) (entries_of old) (entries_of new) all story.cell story.deps (story.deps ++ placed g) g.step g.step (λ e f h. h.stands story.cell alike story.deps)
+            (subst (λ n. EachStands story.cell story.deps n (entries_of old)) come.step st.each));
+        alike = λ t. like_last_stays (HasGoneOn at g) (λ e f h. h.access) old.written.items new.written.items of_written (st.alike (sym same_alike ∙ t));
       };
 }
 
-pub state_grown_at : (at cell : Cell) → at ≡ cell → (g : Group) (first old new : CellState) → HasComeTo g.step first old → new.step ≡ old.step → new.written ≡ old.written → AllChanged (HasGoneOn at g) old.entries.items new.entries.items → HasGrown cell g first new
-state_grown_at at cell is g first old new come same kept all = subst (λ (c : Cell). HasGrown c g first new) is (state_grown at g first old new come same kept all)
+pub state_grown_at : (at cell : Cell) → at ≡ cell → (g : Group) (first old new : CellState) → HasComeTo g.step first old → new.step ≡ old.step → new.alike ≡ old.alike → AllChanged (HasGoneOn at g) old.written.items new.written.items → AllChanged (HasGoneOn at g) old.reads.items new.reads.items → HasGrown cell g first new
+state_grown_at at cell is g first old new come same same_alike of_written of_reads = subst (λ (c : Cell). HasGrown c g first new) is (state_grown at g first old new come same same_alike of_written of_reads)
+
+-- nothing is kept
+pub none_on : {P : Type 0} (e : Entry) → Contains [] e → P
+none_on e on = absurd (let h = on.1 in omega arith)
 
 -- the epoch begins anew
-pub state_restarted : (old new : CellState) → new.step ≡ old.step → new.entries.items ≡ [] → (story : Story) (epoch next : ℕ) → StandsFor story epoch old → ((a : Access) → Contains story.accesses a → a.step < next) → StandsFor story next new
-state_restarted old new same none story epoch next st before = record {
-  lists = subst (λ (es : List Entry). AreListed story.accesses next es) (sym none) record {
-    listed = λ a on from. absurd (let h = before a on in omega arith);
-    known = λ e on. absurd (let h = on.1 in omega arith);
-    in_epoch = λ e on. absurd (let h = on.1 in omega arith);
+pub state_restarted : (old new : CellState) → new.step ≡ old.step → new.alike ≡ false → new.written.items ≡ [] → new.reads.items ≡ [] → (story : Story) (epoch next : ℕ) → StandsFor story epoch old → ((a : Access) → Contains story.accesses a → a.step < next) → StandsFor story next new
+state_restarted old new same apart none no_reads story epoch next st before = record {
+  lists = subst (λ (es : List Entry). AreListed story.accesses next es) (sym nothing) record {
+    listed = λ a on from kept. absurd (let h = before a on in omega arith);
+    known = λ e on. none_on e on;
+    in_epoch = λ e on. none_on e on;
+    kept = λ e on. none_on e on;
     in_order = λ i j d lt within. absurd (omega arith);
   };
-  up_to = subst (λ n. UpTo story.deps n) (sym same) st.up_to;
-  each = subst (λ (es : List Entry). EachStands story.cell story.deps new.step es) (sym none) (λ e on. absurd (let h = on.1 in omega arith));
-  reads = subst (λ (es : List Entry). AreReadsFrom new.written es) (sym none) (λ k d le within. absurd (omega arith));
-}
-
--- an access after all dependencies starts none of them
-late_start : (cell : Cell) (a : Access) (d : Placed) (w : What) → d.group.step < a.step → StartsAs cell a d w → ⊥
-late_start cell a d (Use u) lt s = let h = s.later in omega arith
-late_start cell a d Transition lt s = let h = s.step in omega arith
-
-in_map : (es : List Entry) (a : Access) → Contains (map (λ (e : Entry). e.access) es) a → (e : Entry) × Contains es e × (e.access ≡ a)
-in_map [] a c = absurd (let h = c.1 in omega arith)
-in_map (e ∷ es) a (zero, lt, is) = (e, (zero, omega arith, refl), is)
-in_map (e ∷ es) a (suc k, lt, is) = let r = in_map es a (k, omega arith, is) in (r.0, Contains-append_right (e ∷ []) es r.0 r.1, r.2)
-
-length_map : (es : List Entry) → length (map (λ (e : Entry). e.access) es) ≡ length es
-length_map [] = refl
-length_map (e ∷ es) = let h = length_map es in omega arith
-
-at_map : (es : List Entry) (k : ℕ) (d : Entry) → k < length es → get_or (map (λ (e : Entry). e.access) es) k d.access ≡ (get_or es k d).access
-at_map [] k d lt = absurd (omega arith)
-at_map (e ∷ es) zero d lt = refl
-at_map (e ∷ es) (suc k) d lt = at_map es k d (omega arith)
-
-in_new : (es : List Entry) (e : Entry) → Contains es e → Contains (map (λ (f : Entry). f.access) es) e.access
-in_new es e (k, lt, is) = (k, (let l = length_map es in omega arith), at_map es k e lt ∙ ap (λ (f : Entry). f.access) is)
-
-before_or_from : (k n : ℕ) → (k < n) ⊎ (n ≤ k)
-before_or_from k n = grind arith
-
-pairs_append : (R : Entry → Entry → Type 0) (xs ys : List Entry) → AllPairs R xs → AllPairs R ys → ((x y : Entry) → Contains xs x → Contains ys y → R x y) → AllPairs R (xs ++ ys)
-pairs_append R xs ys p q cross i j d lt within = elim (before_or_from j (length xs)) [
-  | inl low ↦ (
-      let at_i = get_or_append_left xs ys d i (omega arith) in
-      let at_j = get_or_append_left xs ys d j low in
-      subst (λ y. R (get_or (xs ++ ys) i d) y) (sym at_j) (subst (λ x. R x (get_or xs j d)) (sym at_i) (p i j d lt low)))
-  | inr high ↦ (
-      let l = length-append xs ys in
-      let at_j = get_or-append_right xs ys (length xs) j d refl high in
-      let in_j : j - length xs < length ys = omega arith in
-      elim (before_or_from i (length xs)) [
-        | inl low ↦ (
-            let at_i = get_or_append_left xs ys d i low in
-            subst (λ y. R (get_or (xs ++ ys) i d) y) (sym at_j) (subst (λ x. R x (get_or ys (j - length xs) d)) (sym at_i) (cross (get_or xs i d) (get_or ys (j - length xs) d) (Contains-get_or xs i d low) (Contains-get_or ys (j - length xs) d in_j))))
-        | inr up ↦ (
-            let at_i = get_or-append_right xs ys (length xs) i d refl up in
-            subst (λ y. R (get_or (xs ++ ys) i d) y) (sym at_j) (subst (λ x. R x (get_or ys (j - length xs) d)) (sym at_i) (q (i - length xs) (j - length xs) d (omega arith) in_j)))
-      ])
-]
-
--- the accesses of a later step are added
-pub state_recorded : (old new : CellState) (accesses : List Access) (more : List Entry) → new.step ≡ old.step → new.entries.items ≡ old.entries.items ++ more → AreNew accesses more
-    → (((k : ℕ) (d : Entry) → old.written ≤ k → k < length old.entries.items → writes (get_or new.entries.items k d).access.what ≡ false) → AreReadsFrom new.written new.entries.items)
-    → (story : Story) (epoch : ℕ) → AreNext story epoch accesses → StandsFor story epoch old → StandsFor (recorded story accesses) epoch new
-state_recorded old new accesses more same items is reads story epoch next st = record {
-  lists = subst (λ (es : List Entry). AreListed (story.accesses ++ accesses) epoch es) (sym items) record {
-    listed = λ a on from. elim (Contains-append_cases story.accesses accesses a on) [
-      | inl was ↦ (let e = st.lists.listed a was from in (e.0, Contains-append_left old.entries.items more e.0 e.1, e.2))
-      | inr new_one ↦ (let e = in_map more a (subst (λ (xs : List Access). Contains xs a) (sym is.accesses) new_one) in (e.0, Contains-append_right old.entries.items more e.0 e.1, e.2))
-    ];
-    known = λ e on. elim (Contains-append_cases old.entries.items more e on) [
-      | inl was ↦ Contains-append_left story.accesses accesses e.access (st.lists.known e was)
-      | inr new_one ↦ Contains-append_right story.accesses accesses e.access (listed_of e new_one)
-    ];
-    in_epoch = λ e on. elim (Contains-append_cases old.entries.items more e on) [
-      | inl was ↦ st.lists.in_epoch e was
-      | inr new_one ↦ next.in_epoch e.access (listed_of e new_one)
-    ];
-    in_order = pairs_append (λ (e f : Entry). Before e.access f.access) old.entries.items more st.lists.in_order in_order
-        (λ e f was new_one. inl (next.after f.access e.access (listed_of f new_one) (st.lists.known e was)));
+  parted = record {
+    written = λ e on. none_on e (subst (λ (es : List Entry). Contains es e) none on);
+    reads = λ e on. none_on e (subst (λ (es : List Entry). Contains es e) no_reads on);
   };
   up_to = subst (λ n. UpTo story.deps n) (sym same) st.up_to;
-  each = subst (λ (es : List Entry). EachStands story.cell story.deps new.step es) (sym items) (subst (λ n. EachStands story.cell story.deps n (old.entries.items ++ more)) (sym same) (λ e on. elim (Contains-append_cases old.entries.items more e on) [
-    | inl was ↦ st.each e was
-    | inr new_one ↦ stands_new story.cell e.access story.deps old.step e.reached st.up_to
-        (λ d on_d s. late_start story.cell e.access d e.access.what (next.after_deps e.access d (listed_of e new_one) on_d) s)
-        (is.settled e new_one) (is.fresh e new_one)
-  ]));
-  reads = reads (λ k d le within.
-      ap (λ (e : Entry). writes e.access.what) (ap (λ (es : List Entry). get_or es k d) items ∙ get_or_append_left old.entries.items more d k within) ∙ st.reads k d le within);
+  each = λ e on. none_on e (subst (λ (es : List Entry). Contains es e) nothing on);
+  alike = λ t. absurd (true≢false (sym t ∙ apart));
 }
   where
-    listed_of : (e : Entry) → Contains more e → Contains accesses e.access
-    listed_of e on = subst (λ (xs : List Access). Contains xs e.access) is.accesses (in_new more e on)
-
-    in_order : AllPairs (λ (e f : Entry). Before e.access f.access) more
-    in_order i j d lt within =
-        let l = length_map more in
-        let pairs : AllPairs Before (map (λ (e : Entry). e.access) more) = subst (λ (xs : List Access). AllPairs Before xs) (sym is.accesses) next.in_order in
-        let p = pairs i j d.access lt (omega arith) in
-        subst (λ (a : Access). Before (get_or more i d).access a) (at_map more j d within) (subst (λ (a : Access). Before a (get_or (map (λ (e : Entry). e.access) more) j d.access)) (at_map more i d (omega arith)) p)
+    nothing : entries_of new ≡ []
+    nothing = ap (λ (es : List Entry). es ++ new.reads.items) none ∙ no_reads
 
 -- the ranges of its own group hold the cell of a transition
 own_held : (x : Access) (cell : Cell) (group : Option (Bor Group)) → IfSome group (λ g. RangesHold g.now x.area) → IsTrue (covers x.area cell) → (d : Placed) → Contains (own_deps (option_copied group)) d → Within d.dep.range cell
 own_held x cell None held on d c = absurd (let h = c.1 in omega arith)
 own_held x cell (Some g) held on d c = held d.dep cell (placed_dep g.now d c) on
 
-pub state_ready : (state : CellState) (x : Access) (group : Option (Bor Group)) (story : Story) (epoch : ℕ) → IfSome group (λ g. RangesHold g.now x.area) → StandsFor story epoch state → NoRaces story epoch → IsBelow x.step story → IsTrue (covers x.area story.cell) → IsReady story epoch state.step state.entries.items x (option_copied group)
+pub state_ready : (state : CellState) (x : Access) (group : Option (Bor Group)) (story : Story) (epoch : ℕ) → IfSome group (λ g. RangesHold g.now x.area) → StandsFor story epoch state → NoRaces story epoch → IsBelow x.step story → IsTrue (covers x.area story.cell) → IsReady story epoch state.step (entries_of state) x (option_copied group)
 state_ready state x group story epoch held st clean below on = record {
   lists = st.lists;
   each = st.each;
   clean = clean;
+  after = below.accesses;
   earlier = record { before = below.deps; held = own_held x story.cell group held on };
-}
-
--- one more entry
-pub new_push : (xs : List Access) (i : ℕ) (d : Access) (es fs : List Entry) (e : Entry) → i < length xs → fs ≡ es ++ e ∷ [] → e.access ≡ get_or xs i d → e.reached.settled.items ≡ [] → e.reached.fresh.items ≡ [] → AreNew (take i xs) es → AreNew (take (i + 1) xs) fs
-new_push xs i d es fs e below items is settled fresh new = subst (λ (gs : List Entry). AreNew (take (i + 1) xs) gs) (sym items) record {
-  accesses = map-append (λ (f : Entry). f.access) es (e ∷ []) ∙ (ap (λ (ys : List Access). ys ++ e.access ∷ []) new.accesses ∙ (ap (λ (a : Access). take i xs ++ a ∷ []) is ∙ sym (take_more xs i d below)));
-  settled = λ f on. elim (Contains-push_cases es e f on) [ inl old ↦ new.settled f old | inr same ↦ subst (λ (g : Entry). g.reached.settled.items ≡ []) same settled ];
-  fresh = λ f on. elim (Contains-push_cases es e f on) [ inl old ↦ new.fresh f old | inr same ↦ subst (λ (g : Entry). g.reached.fresh.items ≡ []) same fresh ];
 }

@@ -1,2 +1,5 @@
+pub mod Tokens
 pub mod Masks
 pub mod States
+pub mod Alike
+pub mod Contents

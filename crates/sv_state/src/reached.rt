@@ -1,5 +1,5 @@
 //! What dependency chains from one access reach.
-ghost use Rattle.std.specs.Prelude.{◌≡◌, [], ◌∷◌, ◌++◌, ◌<◌, ◌≤◌, ℕ, IsTrue, ◌↔◌, ◌⊎◌, OnOk, List, Contains};
+ghost use Rattle.std.specs.Prelude.{◌≡◌, [], ◌∷◌, ◌++◌, ◌<◌, ◌≤◌, ℕ, IsTrue, ◌↔◌, ◌⊎◌, IfOk, OnOk, List, Contains};
 ghost use Rattle.sv_mask.specs.Sets.{Has};
 ghost use Rattle.sv_model.specs.Cells.{Within};
 ghost use Rattle.sv_model.specs.Chain.{Placed, IsOwn, InFirst, Starts, StartsByUse, Enters, Chain, placed};
@@ -7,10 +7,12 @@ ghost use Rattle.sv_model.specs.Chain as chain;
 ghost use Rattle.sv_model.specs.declared.work.Access.{Access};
 ghost use Rattle.sv_model.specs.declared.work.Cell.{Cell};
 ghost use Rattle.sv_model.specs.declared.work.What.{What};
-ghost use Rattle.sv_state.specs.Masks.{Marked, mark_for, Shows, ShownTo, Stands, LeadsInto};
+ghost use Rattle.sv_state.specs.Masks.{Stands, LeadsInto};
+ghost use Rattle.sv_state.specs.Tokens.{masks_of};
 
-use crate::mask::{Mask, add, add_all, is_on, leads_into, mask_of, within};
+use crate::mask::{Masks, add, is_on, leads_into, marked_on, mask_of, within};
 use crate::set::{has_stage_of, has_usage};
+use crate::settled::Settled;
 use std::alloc::{AllocError, Global};
 use sv_mask::{Usage, is_write};
 use sv_model::same::is_same_access;
@@ -20,8 +22,8 @@ use sv_model::work::{Access, Cell, Dep, Group, What};
 /// by that step itself. They are kept apart since the groups of one step are not linked.
 #[derive(Drop)]
 pub struct Reached {
-    pub settled: Vec<Mask>,
-    pub fresh: Vec<Mask>,
+    pub settled: Settled,
+    pub fresh: Masks,
 }
 
 /// Whether an access writes.
@@ -81,46 +83,28 @@ fn starts(a: &Access, group: &Group, d: &Dep, held: bool) -> bool
     }
 }
 
-fn has_mark(m: Mask, write: bool, u: Usage) -> bool
-    ensures { IsTrue result ↔ Marked m (mark_for write u.0) }
-{
-    if write {
-        has_usage(m.usages, u)
-    } else {
-        has_stage_of(m.stages, u)
-    }
-}
-
-fn shows(m: Mask, x: &Access, write: bool, u: Usage) -> bool
-    ensures { IsTrue result ↔ Shows x.now (mark_for write u.0) m }
-{
-    is_on(x, m.track) && has_mark(m, write, u)
-}
-
-/// Whether some mask is on a track of x and has the usage, or its stage.
-fn marked_on(masks: &[Mask], x: &Access, write: bool, u: Usage) -> bool
-    ensures { IsTrue result ↔ ShownTo x.now (mark_for write u.0) masks.now }
-{
-    for m in masks {
-        if shows(*m, x, write, u) {
-            return true;
-        }
-    }
-    false
-}
-
 impl Reached {
     ghost use Rattle.sv_model.specs.Chain.{AllAlike, Alike, Ends, EndsByUse, Path, UpTo};
 
     /// Nothing is reached yet.
     pub fn new(alloc: Global) -> Reached
-        ensures settled { result.settled.items ≡ [] }
+        ensures settled { masks_of result.settled ≡ [] }
         ensures fresh { result.fresh.items ≡ [] }
     {
         Reached {
-            settled: Vec::new(alloc),
-            fresh: Vec::new(alloc),
+            settled: Settled::new(alloc),
+            fresh: Masks::new(alloc),
         }
+    }
+
+    /// The same is reached.
+    pub fn copy(&self) -> Result<Reached, AllocError>
+        ensures settled { IfOk result (λ copied. masks_of copied.settled ≡ masks_of self.now.settled) }
+        ensures fresh { IfOk result (λ copied. copied.fresh.items ≡ self.now.fresh.items) }
+    {
+        let settled = self.settled.copy()?;
+        let fresh = Masks::from_slice(*self.fresh.allocator(), self.fresh.as_slice())?;
+        Ok(Reached { settled, fresh })
     }
 
     /// Whether a chain leads from the access to a usage of x, which is later than all that was gone
@@ -131,7 +115,7 @@ impl Reached {
             → Stands cell a.now deps step self.now → IsTrue result ↔ Chain deps cell a.now x.now }
     {
         let write = writes(a.what);
-        let earlier = marked_on(&self.settled, x, write, u);
+        let earlier = self.settled.marked_on(x, write, u);
         let now = marked_on(&self.fresh, x, write, u);
         earlier || now
     }
@@ -141,7 +125,7 @@ impl Reached {
         ensures { OnOk result ((cell : Cell) (a : Access) (deps : List Placed) (step next : ℕ) → step < next
             → Stands cell a deps step self.old → Stands cell a deps next self.new) }
     {
-        add_all(&mut self.settled, &self.fresh)?;
+        self.settled.add_all(&self.fresh)?;
         self.fresh.clear();
         Ok(())
     }
@@ -152,7 +136,7 @@ impl Reached {
             → IsTrue result ↔ Enters deps (Starts cell a.now) (record { group = group.now; dep = d.now }) }
     {
         let first = starts(a, group, d, held);
-        let next = leads_into(&self.settled, d);
+        let next = self.settled.leads_into(d);
         first || next
     }
 
@@ -181,9 +165,9 @@ impl Reached {
 
     /// Whether d may follow what is reached by whichever step.
     fn leads(&self, d: &Dep) -> bool
-        ensures { IsTrue result ↔ (LeadsInto self.now.settled.items d.now ⊎ LeadsInto self.now.fresh.items d.now) }
+        ensures { IsTrue result ↔ (LeadsInto (masks_of self.now.settled) d.now ⊎ LeadsInto self.now.fresh.items d.now) }
     {
-        let earlier = leads_into(&self.settled, d);
+        let earlier = self.settled.leads_into(d);
         let now = leads_into(&self.fresh, d);
         earlier || now
     }

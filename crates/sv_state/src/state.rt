@@ -1,23 +1,30 @@
 //! The state of a cell.
-ghost use Rattle.std.specs.Prelude.{◌≡◌, [], ◌<◌, ◌≤◌, ℕ, length, IsTrue, List, Contains, IfSome, MatchOption, OnOk, IfErr};
+ghost use Rattle.std.specs.Prelude.{◌≡◌, [], ◌++◌, ◌<◌, ◌≤◌, ◌+◌, ◌*◌, true, ℕ, List, length, IsTrue, Contains, IfSome, MatchOption, OnOk, IfErr, IfOk};
 ghost use Rattle.std.specs.Option.{option_copied};
 ghost use Rattle.sv_model.specs.Cells.{covers, IsOnly};
-ghost use Rattle.sv_model.specs.Chain.{IsOwn, own_deps, writes};
+ghost use Rattle.sv_model.specs.Chain.{Placed, IsOwn, own_deps, writes};
+ghost use Rattle.sv_model.specs.Composition.{AreChained, IsLatestUnchained, IsWithoutScopes};
 ghost use Rattle.sv_model.specs.Order.{Story, IsClear, IsPartner, NoRaces, IsBelow, extended, recorded, kind_of};
+ghost use Rattle.sv_model.specs.declared.work.Access.{Access};
 ghost use Rattle.sv_model.specs.declared.work.Cell.{Cell};
 
-use crate::entry::{Entry, advance_all, entries_of, extend_all, partner_of, written_from};
+use crate::copying::copies_of;
+use crate::entry::{Entry, advance_all, extend_all, last_racing, last_racing_alike};
+use crate::keeping::{all_alike, entries_of, last_of_keys, some_writes, take_place};
 use std::alloc::{AllocError, Global};
 use sv_model::work::{Access, Area, Cell, Group, Partner};
 
-/// The accesses of a cell since its epoch began, each with what dependency chains reach from it.
+/// What is kept of the accesses of a cell since its epoch began, each with what dependency chains reach
+/// from it: the accesses of the last step that writes, and of the reads at later steps the last of each
+/// key. All others of the epoch are ordered where these are.
 ///
-/// `step` is the step of the last group that it went through, or 0. The entries from `written` on are
-/// reads, so a read is not compared with them.
+/// `step` is the step of the last group that it went through, or 0. `alike` says that the accesses of the
+/// step that writes are alike, so that one look tells of all.
 #[derive(Drop)]
 pub struct CellState {
-    entries: Vec<Entry>,
-    written: usize,
+    written: Vec<Entry>,
+    alike: bool,
+    reads: Vec<Entry>,
     step: u64,
 }
 
@@ -39,7 +46,9 @@ fn cell_of(at: &Area) -> Cell
 }
 
 impl CellState {
-    ghost use Rattle.sv_state.specs.States.{StandsFor, AreNext, HasComeTo, HasGrown, RangesHold};
+    ghost use Rattle.sv_state.specs.States.{StandsFor, IsBounded, SomeWrites, AreNext, HasComeTo, HasGrown, RangesHold, AreLikeLast, IsEarlier, EachStands, AllDirected, IsLastUndirected};
+    ghost use Rattle.sv_state.specs.States as spec;
+    ghost use Rattle.sv_state.specs.Contents.{contents_of};
 
     /// The state of a cell before any work. It takes no memory.
     pub fn new(alloc: Global) -> CellState
@@ -47,32 +56,121 @@ impl CellState {
         ensures stands { (cell : Cell) → StandsFor (record { cell = cell; accesses = []; deps = [] }) 0 result }
     {
         CellState {
-            entries: Vec::new(alloc),
-            written: 0,
+            written: Vec::new(alloc),
+            alike: false,
+            reads: Vec::new(alloc),
             step: 0,
         }
     }
 
-    /// The number of kept accesses.
-    pub fn kept(&self) -> usize
-        ensures { result ≡ length self.now.entries.items }
+    /// A state that holds the same.
+    pub fn copy(&self) -> Result<CellState, AllocError>
+        ensures { IfOk result (λ copied. contents_of copied ≡ contents_of self.now) }
     {
-        self.entries.len()
+        let alloc = *self.written.allocator();
+        let written = copies_of(alloc, &self.written)?;
+        let reads = copies_of(alloc, &self.reads)?;
+        Ok(CellState {
+            written,
+            alike: self.alike,
+            reads,
+            step: self.step,
+        })
+    }
+
+    /// The number of kept accesses. Outside render scopes these are the accesses of one step, and of each
+    /// queue at most one read of each of the 17 stages.
+    pub fn kept(&self) -> usize
+        ensures number { result ≡ length (spec.entries_of self.now) }
+        ensures few { (story : Story) (epoch : ℕ) (queues : List ℕ) (most : ℕ) → StandsFor story epoch self.now → IsBounded story.accesses queues most
+            → result ≤ most + 17 * length queues }
+    {
+        self.written.len() + self.reads.len()
     }
 
     /// The latest of the earlier accesses of the epoch with which the access races, or None where it
-    /// races with none. A transition is given with its own group.
+    /// races with none. A transition is given with its own group. In traces without render scopes these
+    /// are the accesses that conflict with it and from which no chain leads to it.
     pub fn check(&self, access: &Access, group: Option<&Group>) -> Option<Partner>
         requires own { IfSome group (λ g. IsOwn access.now g.now) }
         requires held { IfSome group (λ g. RangesHold g.now access.now.area) }
-        ensures { (story : Story) (epoch : ℕ) → StandsFor story epoch self.now → NoRaces story epoch → IsBelow access.now.step story
+        ensures partner { (story : Story) (epoch : ℕ) → StandsFor story epoch self.now → NoRaces story epoch → IsBelow access.now.step story
             → IsTrue (covers access.now.area story.cell)
             → MatchOption result
             (IsClear (extended story (own_deps (option_copied group.entry))) epoch access.now)
             (λ p. IsPartner (extended story (own_deps (option_copied group.entry))) epoch access.now p.access
             × (p.kind ≡ kind_of (writes p.access.what) (writes access.now.what))) }
+        ensures chains { (story : Story) (epoch : ℕ) → StandsFor story epoch self.now → NoRaces story epoch → IsBelow access.now.step story
+            → IsTrue (covers access.now.area story.cell) → IsWithoutScopes (extended story (own_deps (option_copied group.entry)))
+            → MatchOption result
+            (AreChained (extended story (own_deps (option_copied group.entry))) epoch access.now)
+            (λ p. IsLatestUnchained (extended story (own_deps (option_copied group.entry))) epoch access.now p.access) }
     {
-        partner_of(&self.entries, self.written, access, group)
+        match last_racing(&self.reads, access, group) {
+            Some(partner) => Some(partner),
+            None => self.racing_written(access, group),
+        }
+    }
+
+    /// The last of the accesses of the step that writes that races with the access, as far as the direct
+    /// order tells.
+    fn racing_written(&self, access: &Access, group: Option<&Group>) -> Option<Partner>
+        requires { IfSome group (λ g. IsOwn access.now g.now) }
+        ensures { (self.now.alike ≡ true → AreLikeLast self.now.written.items) → (cell : Cell) (deps : List Placed) (step : ℕ)
+            → IsEarlier deps cell access.now (option_copied group.entry) → EachStands cell deps step self.now.written.items
+            → MatchOption result
+            (AllDirected (deps ++ own_deps (option_copied group.entry)) cell access.now self.now.written.items)
+            (λ p. IsLastUndirected (deps ++ own_deps (option_copied group.entry)) cell access.now self.now.written.items p.access
+            × (p.kind ≡ kind_of (writes p.access.what) (writes access.now.what))) }
+    {
+        if self.alike {
+            last_racing_alike(&self.written, access, group)
+        } else {
+            last_racing(&self.written, access, group)
+        }
+    }
+
+    /// The accesses of a step that writes take the place of all that was kept.
+    fn take_writes(&mut self, accesses: &[Access]) -> Result<(), AllocError>
+        requires { SomeWrites accesses.now }
+        ensures step { self.new.step ≡ self.old.step }
+        ensures stands { OnOk result ((story : Story) (epoch : ℕ) → AreNext story epoch accesses.now → StandsFor story epoch self.old
+            → StandsFor (recorded story accesses.now) epoch self.new) }
+        ensures fault { IfErr result (λ e. self.new ≡ self.old) }
+    {
+        let alloc = *self.written.allocator();
+        let written = entries_of(alloc, accesses)?;
+        self.written = written;
+        self.alike = all_alike(accesses);
+        self.reads.clear();
+        Ok(())
+    }
+
+    /// Reads of one step come to those that are kept, each in the place of the one with its key.
+    fn take_each(&mut self, accesses: &[Access]) -> Result<(), AllocError>
+        ensures step { self.new.step ≡ self.old.step }
+        ensures stands { OnOk result (¬ SomeWrites accesses.now → (story : Story) (epoch : ℕ) → AreNext story epoch accesses.now → StandsFor story epoch self.old
+            → StandsFor (recorded story accesses.now) epoch self.new) }
+        ensures fault { IfErr result (λ e. spec.entries_of self.new ≡ spec.entries_of self.old) }
+    {
+        self.reads.reserve(accesses.len())?;
+        for a in accesses {
+            take_place(&mut self.reads, a)?;
+        }
+        Ok(())
+    }
+
+    /// The accesses of a step that only reads come to those that are kept: of each key the last one.
+    fn take_reads(&mut self, accesses: &[Access]) -> Result<(), AllocError>
+        requires { ¬ SomeWrites accesses.now }
+        ensures step { self.new.step ≡ self.old.step }
+        ensures stands { OnOk result ((story : Story) (epoch : ℕ) → AreNext story epoch accesses.now → StandsFor story epoch self.old
+            → StandsFor (recorded story accesses.now) epoch self.new) }
+        ensures fault { IfErr result (λ e. spec.entries_of self.new ≡ spec.entries_of self.old) }
+    {
+        let alloc = *self.reads.allocator();
+        let last = last_of_keys(alloc, accesses)?;
+        self.take_each(last.as_slice())
     }
 
     /// Adds the accesses of one step on the cell. Where memory is missing the state is as before.
@@ -80,14 +178,13 @@ impl CellState {
         ensures step { self.new.step ≡ self.old.step }
         ensures stands { OnOk result ((story : Story) (epoch : ℕ) → AreNext story epoch accesses.now → StandsFor story epoch self.old
             → StandsFor (recorded story accesses.now) epoch self.new) }
-        ensures fault { IfErr result (λ e. (self.new.entries.items ≡ self.old.entries.items) × (self.new.written ≡ self.old.written)) }
+        ensures fault { IfErr result (λ e. spec.entries_of self.new ≡ spec.entries_of self.old) }
     {
-        let alloc = *self.entries.allocator();
-        let mut more = entries_of(alloc, accesses)?;
-        let before = self.entries.len();
-        self.entries.append(&mut more)?;
-        self.written = written_from(&self.entries, before, self.written);
-        Ok(())
+        if some_writes(accesses) {
+            self.take_writes(accesses)
+        } else {
+            self.take_reads(accesses)
+        }
     }
 
     /// A later step begins.
@@ -95,7 +192,8 @@ impl CellState {
         ensures { OnOk result (self.old.step ≤ step → HasComeTo step self.old self.new) }
     {
         if self.step < step {
-            advance_all(&mut self.entries)?;
+            advance_all(&mut self.written)?;
+            advance_all(&mut self.reads)?;
             self.step = step;
         }
         Ok(())
@@ -107,18 +205,21 @@ impl CellState {
         ensures { OnOk result ((cell : Cell) → IsOnly at.now cell → self.old.step ≤ group.now.step → HasGrown cell group.now self.old self.new) }
     {
         self.advance(group.step)?;
-        extend_all(&mut self.entries, group, cell_of(at))?;
+        let cell = cell_of(at);
+        extend_all(&mut self.written, group, cell)?;
+        extend_all(&mut self.reads, group, cell)?;
         Ok(())
     }
 
     /// Forgets all accesses: the epoch begins anew.
     pub fn restart(&mut self)
         ensures step { self.new.step ≡ self.old.step }
-        ensures none { self.new.entries.items ≡ [] }
+        ensures none { spec.entries_of self.new ≡ [] }
         ensures stands { (story : Story) (epoch next : ℕ) → StandsFor story epoch self.old → ((a : Access) → Contains story.accesses a → a.step < next)
             → StandsFor story next self.new }
     {
-        self.entries.clear();
-        self.written = 0;
+        self.written.clear();
+        self.alike = false;
+        self.reads.clear();
     }
 }

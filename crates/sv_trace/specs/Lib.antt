@@ -4,3 +4,4 @@ pub mod Parts
 pub mod Lines
 pub mod Text
 pub mod Reading
+pub mod Formed

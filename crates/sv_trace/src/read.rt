@@ -2,6 +2,7 @@
 ghost use Rattle.std.specs.Prelude.{◌≡◌, ◌≢◌, IfOk, option_map};
 ghost use Rattle.serde_json.specs.View.{view};
 ghost use Rattle.sv_form.specs.Form.{found};
+ghost use Rattle.sv_trace.specs.Formed.{IsFormed};
 ghost use Rattle.sv_trace.specs.Ops.{form_of};
 ghost use Rattle.sv_trace.specs.Reading.{data_of, op_text, line_form, line_cause, line_of, cause_of, Answers};
 ghost use Rattle.sv_trace.specs.Text.{is_blank};
@@ -136,9 +137,19 @@ fn answer(found: Found<Line>, number: u64) -> Result<Line, Fault>
 /// stands in the refusal.
 ///
 /// A blank line is `Line::Blank`. The refusal is the least of `BadJson`, `BadShape`, `UnknownName`
-/// and `Range` whose sentence holds of the line.
-#[tactic(auto, unfolding(crate::specs::Reading::line_cause, crate::specs::Reading::line_of))]
+/// and `Range` whose sentence holds of the line. The numbers of a line that is not refused are within
+/// their bounds, and its parts have their forms.
+#[tactic(auto, using(crate::proofs::FormedLines::answers_formed))]
 pub fn read_line(alloc: Global, bytes: &[u8], number: u64) -> Result<Line, Fault>
+    ensures answers { Answers (line_cause bytes.now) (line_of bytes.now) number result }
+    ensures formed { IfOk result IsFormed }
+{
+    answer_to(alloc, bytes, number)
+}
+
+// What the bytes say, or why they are refused.
+#[tactic(auto, unfolding(crate::specs::Reading::line_cause, crate::specs::Reading::line_of))]
+fn answer_to(alloc: Global, bytes: &[u8], number: u64) -> Result<Line, Fault>
     ensures { Answers (line_cause bytes.now) (line_of bytes.now) number result }
 {
     if blank(bytes) {

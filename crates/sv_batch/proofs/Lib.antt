@@ -1,0 +1,4 @@
+pub mod OneMore
+pub mod OneRecording
+pub mod UsesTaken
+pub mod WholeBatch

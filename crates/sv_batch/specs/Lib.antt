@@ -1,0 +1,2 @@
+-- What runs in a batch.
+pub mod Running

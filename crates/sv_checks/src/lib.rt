@@ -1,0 +1,6 @@
+//! What the steps of a work report, and their notes.
+#![tactic(auto)]
+
+mod checks;
+
+pub use checks::Checks;

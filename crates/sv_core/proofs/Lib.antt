@@ -1,0 +1,6 @@
+pub mod OnTheWay
+pub mod HostWaits
+pub mod TakenItems
+pub mod TakingIn
+pub mod Lacking
+pub mod Kept

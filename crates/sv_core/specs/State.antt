@@ -1,0 +1,30 @@
+-- What contracts see of a validator, and what holds of every one.
+use Rattle.std.specs.Prelude.{List, Bool, true, false}
+use Rattle.sv_model.specs.History.{IsHistory, IsWhole}
+use Rattle.sv_model.specs.Lawful.{IsLawful}
+use Rattle.sv_model.specs.Replies.{AreReplies}
+use Rattle.sv_model.specs.declared.line.Mark.{Mark}
+use Rattle.sv_model.specs.declared.line.Trace.{Trace}
+use Rattle.sv_model.specs.declared.work.Reply.{Reply}
+use Rattle.sv_core.specs.Going.{AreReadyUnlessSpent}
+use Rattle.sv_core.specs.declared.parts.Parts.{Parts}
+
+-- The trace, the history, the replies, and whether it is spent.
+pub record State : Type 0 where
+  pub trace : Trace
+  pub history : List Mark
+  pub replies : List Reply
+  pub spent : Bool
+
+-- the history of a spent validator lacks the event that it stopped at
+abbrev pub LacksIfSpent : Bool → Trace → List Mark → Type 0
+LacksIfSpent true t history = ¬ IsWhole t history
+LacksIfSpent false t history = Unit {0}
+
+-- What holds of every validator.
+pub record Holds (t : Trace) (history : List Mark) (replies : List Reply) (spent : Bool) (p : Parts) : Type 0 where
+  pub lawful : IsLawful t
+  pub is_history : IsHistory t history
+  pub answered : AreReplies t history replies
+  pub ready : AreReadyUnlessSpent spent t history p
+  pub lacks : LacksIfSpent spent t history

@@ -1,0 +1,8 @@
+pub mod Seats
+pub mod Steps
+pub mod Counting
+pub mod Sizes
+pub mod Pushing
+pub mod Keeping
+pub mod Items
+pub mod Finishing

@@ -1,0 +1,3 @@
+-- Actors, and what their device keeps.
+pub mod Actors
+pub mod Devices

@@ -1,0 +1,23 @@
+//! The device lock, and the actors that take it in turn.
+#![tactic(auto)]
+
+mod actor;
+mod device;
+mod finish;
+mod kept;
+mod pace;
+mod recording;
+mod runs;
+mod scripts;
+mod who;
+
+pub use actor::Actor;
+pub use device::Device;
+pub use kept::Kept;
+pub use pace::{Idle, Pace};
+pub use runs::replay;
+pub use scripts::actors;
+pub use who::Who;
+
+#[cfg(test)]
+mod tests;

@@ -1,0 +1,17 @@
+pub mod Folds
+pub mod Fences
+pub mod Timelines
+pub mod Binaries
+pub mod Asked
+pub mod Batches
+pub mod Opened
+pub mod Lawfulness
+pub mod Places
+pub mod Starts
+pub mod Falls
+pub mod Taking
+pub mod Coming
+pub mod HeldCalls
+pub mod FindsSignals
+pub mod Stays
+pub mod Later

@@ -1,0 +1,3 @@
+pub mod GroupedReplies
+pub mod Joining
+pub mod Numbers

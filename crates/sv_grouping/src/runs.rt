@@ -1,0 +1,92 @@
+// Reports in greatest runs of neighbouring cells.
+ghost use Rattle.std.specs.Prelude.{◌≡◌, ◌+◌, ◌<◌, ◌^◌, ◌↔◌, [], ◌∷◌, ◌++◌, OnOk, IsTrue};
+ghost use Rattle.sv_model.specs.Reports.{Follows, Joins, IsRun, spots, spots_of};
+ghost use Rattle.sv_model.specs.Cells.{EndsSmall};
+ghost use Rattle.sv_notes.specs.Joined.{joined_area};
+ghost use Rattle.sv_grouping.specs.Runs.{AreRuns, Grows};
+
+use std::alloc::AllocError;
+use sv_model::same::is_same_access;
+use sv_model::work::{Area, Report};
+use sv_range::{Cells, List, Span};
+
+// Whether the second area begins where the first one ends.
+fn follows(first: Area, second: Area) -> bool
+    ensures { IsTrue result ↔ Follows first second }
+{
+    match (first, second) {
+        (Area::Bytes { res: a, span: s }, Area::Bytes { res: b, span: t }) => a == b
+            && s.end == t.start,
+        (Area::Image { res: a, cells: s }, Area::Image { res: b, cells: t }) => {
+            a == b
+                && s.mip == t.mip
+                && u64::from(s.layer) + u64::from(s.layers) == u64::from(t.layer)
+        }
+        _ => false,
+    }
+}
+
+// Whether the two reports have the same accesses and kind.
+fn is_same_pair(first: &Report, second: &Report) -> bool
+    ensures { IsTrue result ↔ ((first.now.later ≡ second.now.later)
+        × (first.now.earlier ≡ second.now.earlier) × (first.now.kind ≡ second.now.kind)) }
+{
+    is_same_access(&first.later, &second.later)
+        && is_same_access(&first.earlier, &second.earlier)
+        && first.kind == second.kind
+}
+
+// Whether the two reports could be one.
+fn joins(first: &Report, second: &Report) -> bool
+    ensures { IsTrue result ↔ Joins first.now second.now }
+{
+    follows(first.area, second.area) && is_same_pair(first, second)
+}
+
+// One area of two of which the second begins where the first one ends.
+fn joined_area(first: Area, second: Area) -> Area
+    requires ends { EndsSmall second }
+    requires next { Follows first second }
+    ensures { result ≡ joined_area first second }
+{
+    match (first, second) {
+        (Area::Bytes { res, span }, Area::Bytes { span: next, .. }) => Area::Bytes {
+            res,
+            span: Span {
+                start: span.start,
+                end: next.end,
+            },
+        },
+        (Area::Image { res, cells }, Area::Image { cells: next, .. }) => Area::Image {
+            res,
+            cells: Cells {
+                layers: cells.layers + next.layers,
+                ..cells
+            },
+        },
+        _ => first,
+    }
+}
+
+/// One more report: it goes on from the last one, or begins a run of its own.
+pub fn add_run(reports: &mut List<Report>, report: Report) -> Result<(), AllocError>
+    requires run { IsRun report.area }
+    requires ends { EndsSmall report.area }
+    requires runs { AreRuns reports.old }
+    ensures whole { OnOk result (spots_of reports.new ≡ spots_of reports.old ++ spots report) }
+    ensures runs { OnOk result (AreRuns reports.new) }
+    ensures grown { OnOk result (Grows reports.old report reports.new) }
+{
+    match reports.pop() {
+        None => reports.push_or_drop(report),
+        Some(last) => {
+            if joins(&last, &report) {
+                let area = joined_area(last.area, report.area);
+                reports.push_or_drop(Report { area, ..last })
+            } else {
+                reports.push_or_drop(last)?;
+                reports.push_or_drop(report)
+            }
+        }
+    }
+}

@@ -1,0 +1,11 @@
+//! Recordings, one command after another.
+#![tactic(auto)]
+
+mod begin_steps;
+mod command_steps;
+pub mod context;
+mod families;
+mod here;
+pub mod passes;
+pub mod scope;
+mod scope_steps;

@@ -1,0 +1,16 @@
+pub mod Trace
+pub mod Standings
+pub mod Taken
+pub mod First
+pub mod PartRules
+pub mod Named
+pub mod Masks
+pub mod Places
+pub mod SelfDependencies
+pub mod Calls
+pub mod Limits
+pub mod Causes
+pub mod Ends
+pub mod Outcome
+pub mod SoFar
+pub mod Laws

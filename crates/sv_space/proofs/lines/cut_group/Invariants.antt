@@ -1,0 +1,12 @@
+use Rattle.std.proofs.Common.{◌≡◌, Contains, Some, take}
+use Rattle.sv_model.specs.declared.work.Area.{Area}
+use Rattle.sv_model.specs.declared.work.Dep.{Dep}
+use Rattle.sv_space.specs.AllLines.{AreAllCut, AreAllPartsOf, AreSameLines}
+use Rattle.sv_space.proofs.lines.cut_group.Given as goal
+
+abbrev pub invariant-loop-dep : goal.invariant-loop-dep
+invariant-loop-dep l = record {
+  same : AreSameLines l.initial.lines.items l.lines.items;
+  parts : AreAllPartsOf l.lines.items l.initial.lines.items;
+  cut : (d : Dep) → Contains (take l.dep-index l.deps) d → (area : Area) → d.range ≡ Some area → AreAllCut area l.lines.items;
+}

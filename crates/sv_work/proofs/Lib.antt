@@ -1,0 +1,3 @@
+pub mod OneStep
+pub mod Turned
+pub mod StepDone
