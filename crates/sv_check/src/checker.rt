@@ -18,11 +18,11 @@ use crate::passes::{Pass, line_at, pass_of};
 use crate::recordings::Recordings;
 use crate::register::Register;
 use crate::scripts::Scripts;
-use sv_rules::standing::Standing;
 use std::alloc::Global;
 use std::collections::BTreeMap;
 use std::marker::Model;
 use sv_model::line::SemKind;
+use sv_rules::standing::Standing;
 
 /// The trace that the lines so far make, and what its rules ask of the next line. Contracts see how many lines there
 /// are, whether one of them is not blank, and the trace.

@@ -10,9 +10,9 @@ use crate::checker::Checker;
 use crate::elements::are_two_layouts;
 use crate::measure::PassSizes;
 use crate::sizes::{both, count};
-use sv_rules::standing::{Standing, stored};
 use sv_model::line::{Command, Element};
 use sv_range::List;
+use sv_rules::standing::{Standing, stored};
 
 /// Where the next command stands after this one.
 pub fn standing_after(standing: Standing, command: &Command) -> Standing

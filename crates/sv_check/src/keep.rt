@@ -11,7 +11,6 @@ ghost use Rattle.sv_rules.specs.Trace.{called, recorded};
 use crate::checker::Checker;
 use crate::commands::{command_size, standing_after};
 use crate::extent::Extent;
-use sv_rules::laws::lines_are_lawful;
 use crate::layouts::has_unclear_use;
 use crate::measure::sizes_of;
 use crate::rules::rule_cause;
@@ -21,6 +20,7 @@ use sv_mask::Layout;
 use sv_model::line::{Command, Line, PassAttachment, PassDep, PassUse, SemKind, Sharing};
 use sv_model::refusal::{Fault, Refusal};
 use sv_range::List;
+use sv_rules::laws::lines_are_lawful;
 
 impl Checker {
     fn keep_begin(&mut self, rec: u32, recorder: u32, family: u32) -> Result<(), AllocError>

@@ -26,9 +26,9 @@ mod rules;
 mod scripts;
 mod self_dependencies;
 mod sizes;
-mod text;
 #[cfg(test)]
 mod tests;
+mod text;
 #[cfg(test)]
 mod text_tests;
 

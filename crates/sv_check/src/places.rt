@@ -6,8 +6,8 @@ ghost use Rattle.sv_rules.specs.Places as spec;
 use crate::checker::Checker;
 use crate::elements::{is_misused_access, leaves_subpass, transfers, transfers_wrongly};
 use crate::named::recording_at;
-use sv_rules::standing::{Standing, is_in_pass, is_in_rendering, is_inside};
 use sv_model::line::{Batch, Declared, Element, Line};
+use sv_rules::standing::{Standing, is_in_pass, is_in_rendering, is_inside};
 
 fn is_before_last(checker: &Checker, standing: Standing) -> bool
     ensures { result ≡ spec.is_before_last checker.now.trace standing }

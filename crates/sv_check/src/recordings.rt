@@ -10,11 +10,11 @@ ghost use Rattle.sv_check.specs.Sound.{at_place};
 ghost use Rattle.sv_check.specs.declared.known.Known.{Known};
 
 use crate::known::Known;
-use sv_rules::standing::Standing;
 use std::alloc::{AllocError, Global};
 use std::collections::BTreeMap;
 use sv_model::line::{Command, Recording};
 use sv_range::List;
+use sv_rules::standing::Standing;
 
 /// The recordings in order. `known` has what is known of each, `places` where each stands by its number, and `busy`
 /// which recorders have an open one.

@@ -4,8 +4,8 @@ ghost use Rattle.sv_rules.specs.Causes as spec;
 ghost use Rattle.sv_rules.specs.PartRules.{is_out_of_resource, is_empty};
 ghost use Rattle.sv_rules.specs.Places.{has_unclear_use};
 
-use crate::checker::Checker;
 use crate::calls::{is_of_another_lane, is_of_wrong_kind};
+use crate::checker::Checker;
 use crate::limits::passed_limit;
 use crate::masks::is_without_stage;
 use crate::named::{is_declared_twice, is_undeclared};

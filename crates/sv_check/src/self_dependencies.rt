@@ -6,9 +6,9 @@ ghost use Rattle.sv_model.specs.LawfulCommands.{contains_element};
 ghost use Rattle.sv_rules.specs.SelfDependencies as spec;
 
 use crate::checker::Checker;
-use sv_rules::standing::Standing;
 use sv_expand::is_within;
 use sv_model::line::{Element, Line, PassDep};
+use sv_rules::standing::Standing;
 
 fn is_subpass(i: u32, end: Option<u32>) -> bool
     ensures { result ≡ is_subpass i end }

@@ -50,12 +50,7 @@ pub fn record(trace: &Trace, passes: &Passes, number: u32) -> Result<Recorded, A
 
 /// The event at that place of the actor's script; the passes are those of the trace. A recorder fills a
 /// context of its own for it. Fails only for want of memory.
-pub fn event_at(
-    trace: &Trace,
-    passes: &Passes,
-    who: Who,
-    place: u32,
-) -> Result<Event, AllocError>
+pub fn event_at(trace: &Trace, passes: &Passes, who: Who, place: u32) -> Result<Event, AllocError>
     requires lawful { IsLawful trace.now }
     requires passes { passes.now ≡ trace.now.passes }
     requires left { place < length (script_of trace.now who) }
