@@ -1,8 +1,9 @@
 #!/usr/bin/env python3
 """Runs `PROGRAM check` on the examples of OUTPUT.md and TRACE.md, and compares what it prints and its status.
 
-An example is a fenced block of a trace with the block of its whole output behind it; blocks that name a language are none.
-In TRACE.md the bad lines of a table stand each behind the lines of the block before the table. Ends with status 1 where the program differs, after a line for each.
+An example is a fenced block of a trace with the block of its whole output behind it; blocks that name a
+language are none. In TRACE.md the bad lines of a table stand each behind the lines of the block before it.
+Ends with status 1 where the program differs, after the two outputs of each example that does.
 `--write FOLDER` in the place of PROGRAM writes NAME.trace and NAME.out for each example there.
 """
 import pathlib
@@ -32,6 +33,10 @@ def bad_lines():
     section = re.search(r"^### A bad line for each\n(.*?)(?=^## )", text, re.M | re.S).group(1)
     first = plain_blocks(section)[0]
     yield "bad-alone", first, re.search(r"Alone they give `(.*?)`", section).group(1) + "\n"
+    many = ",".join(["{}"] * 65)
+    submit = f'{{"op":"submit","lane":0,"queue":0,"batches":[{many}]}}\n'
+    out = re.search(r"With a `submit` of 65 batches.*?`(line .*?)`", section, re.S).group(1)
+    yield "bad-batches", first + submit, out + "\n"
     for number, (line, out) in enumerate(re.findall(r"^\| `(.*)` \| `(.*)` \|$", section, re.M)):
         yield f"bad-{number:02}", first + line + "\n", out + "\n"
 
