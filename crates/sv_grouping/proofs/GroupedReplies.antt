@@ -20,10 +20,10 @@ use Rattle.sv_model.specs.declared.work.Note.{Note}
 use Rattle.sv_model.specs.declared.work.Note.TheVariants as note
 use Rattle.sv_model.specs.declared.work.Reply.{Reply}
 use Rattle.sv_model.specs.declared.work.Report.{Report}
-use Rattle.sv_notes.proofs.JoinedNotes.{cells_more}
-use Rattle.sv_notes.specs.Joined.{AreNoteRuns}
-use Rattle.sv_grouping.specs.Grouped.{IsGrouped, IsNotLater, Moves, StandsFor, moved, reports_before}
-use Rattle.sv_grouping.specs.Runs.{AreRuns, HasRun}
+use Rattle.sv_runs.proofs.JoinedNotes.{cells_more}
+use Rattle.sv_runs.specs.Joined.{AreNoteRuns}
+use Rattle.sv_runs.specs.Runs.{AreRuns}
+use Rattle.sv_grouping.specs.Grouped.{HasRun, IsGrouped, IsNotLater, Moves, StandsFor, moved, reports_before}
 
 -- ---- the reports come by step
 

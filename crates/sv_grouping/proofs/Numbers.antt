@@ -10,9 +10,10 @@ use Rattle.std.proofs.lemmas.List.Sums.{count_by-le-length, count_by_more_no, su
 use Rattle.sv_model.specs.Replies.{reports_up_to}
 use Rattle.sv_model.specs.Reports.{spots_of, spots}
 use Rattle.sv_model.specs.declared.work.Report.{Report}
-use Rattle.sv_grouping.proofs.Joining.{all_last, runs_none, spots_more, spots_none}
+use Rattle.sv_runs.proofs.JoinedAreas.{all_front, all_last}
+use Rattle.sv_runs.proofs.JoinedReports.{runs_none, spots_more, spots_none}
+use Rattle.sv_runs.specs.Runs.{AreRuns, GoesOn, Grows, joined}
 use Rattle.sv_grouping.specs.Grouped.{IsNotLater, Moves}
-use Rattle.sv_grouping.specs.Runs.{AreRuns, GoesOn, Grows, joined}
 
 abbrev IsUpTo : ℕ → Report → Type 0
 IsUpTo step r = r.later.step ≤ step
@@ -40,10 +41,6 @@ count_all step (r ∷ rs) all =
     ∙ (let e : 1 + length rs ≡ suc (length rs) = omega arith in e)
 
 -- ---- one more report
-
-all_front : (P : Report → Type 0) (rs : List Report) (a : Report) → All P (rs ++ a ∷ []) → All P rs
-all_front P [] a h = All-nil P
-all_front P (r ∷ rs) a h = All-cons P r rs (All-head P r (rs ++ a ∷ []) h) (all_front P rs a (All-tail P r (rs ++ a ∷ []) h))
 
 grown_up_to : (step : ℕ) (old new : List Report) (r : Report) → Grows old r new → All (IsUpTo step) old → IsUpTo step r → All (IsUpTo step) new
 grown_up_to step old new r (inl g) all here =

@@ -1,10 +1,9 @@
 -- Reports in greatest runs.
 use Rattle.std.specs.Prelude.{◌≡◌, ◌⊎◌, List, [], ◌∷◌, ◌++◌}
 use Rattle.std.specs.List.{All}
-use Rattle.sv_model.specs.Cells.{EndsSmall}
 use Rattle.sv_model.specs.Reports.{IsRun, AreApart}
 use Rattle.sv_model.specs.declared.work.Report.{Report}
-use Rattle.sv_notes.specs.Joined.{joined_area}
+use Rattle.sv_runs.specs.Joined.{joined_area}
 
 -- each is a run, and no two neighbours could be one
 pub record AreRuns (reports : List Report) : Type 0 where
@@ -25,7 +24,3 @@ pub record GoesOn (old : List Report) (report : Report) (new : List Report) : Ty
 -- one more report goes on from the last one, or begins a run of its own
 abbrev pub Grows : List Report → Report → List Report → Type 0
 Grows old report new = GoesOn old report new ⊎ (new ≡ old ++ report ∷ [])
-
--- the report is on one run of cells
-abbrev pub HasRun : Report → Type 0
-HasRun r = IsRun r.area × EndsSmall r.area
