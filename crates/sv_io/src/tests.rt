@@ -51,11 +51,6 @@ fn writes_all_or_a_prefix(rt: HostRuntime) -> Result<(), Fail> {
 }
 
 #[test]
-fn an_idle_pace_returns(_rt: HostRuntime) {
-    Idle.arrive(31, 0);
-}
-
-#[test]
 fn reads_standard_input(rt: HostRuntime) {
     let mut source = StdSource::new(rt.stdin());
     assert!(rt; read_all(rt.alloc(), &mut source).is_ok());
