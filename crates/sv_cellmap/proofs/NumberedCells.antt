@@ -1,5 +1,5 @@
 -- A map with the areas of a resource has the cells with its numbers.
-use Rattle.std.proofs.Common.{ℕ, zero, suc, ◌≡◌, ◌<◌, ◌≤◌, ◌+◌, ◌*◌, ◌/◌, ◌%◌, ◌==◌, ◌^◌, Bool, true, false, if◌then◌else◌, arith, refl, sym, subst}
+use Rattle.std.proofs.Common.{ℕ, zero, suc, ◌≡◌, ◌<◌, ◌≤◌, ◌+◌, ◌*◌, ◌/◌, ◌%◌, ◌==◌, Bool, false, if◌then◌else◌, arith, sym, subst}
 use Rattle.std.proofs.lemmas.Nat.{div_below, mod_below}
 use Rattle.sv_model.specs.declared.work.Cell.TheVariants.{Byte, Texel}
 use Rattle.sv_range.specs.declared.span.Cells.{Cells}

@@ -7,12 +7,7 @@ use sv_model::line::Line;
 use sv_model::work::Cell;
 
 /// Puts a value at a place of a table, where places that it did not have come to have the other value.
-pub fn put_at<X: Copy>(
-    items: &mut Vec<X>,
-    place: u32,
-    value: X,
-    other: X,
-) -> Result<(), AllocError>
+pub fn put_at<X: Copy>(items: &mut Vec<X>, place: u32, value: X, other: X) -> Result<(), AllocError>
     ensures { OnOk result ((k : ℕ) → unwrap_or (slice_get items.new.items k) other ≡ (if k == place then value else unwrap_or (slice_get items.old.items k) other)) }
 {
     let wanted = place as usize + 1;
