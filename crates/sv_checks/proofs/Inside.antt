@@ -1,11 +1,8 @@
 -- What lies inside the resources of a trace may be taken by the space, the layouts and the owners of these resources.
-use Rattle.std.proofs.Common.{ℕ, ◌<◌, ◌≤◌, ◌^◌, ◌≡◌, Bool, true, false, List, [], ◌∷◌, Option, Some, None, length, refl, subst, arith}
-use Rattle.std.specs.Prelude.{slice_get, ◌==◌, if◌then◌else◌}
-use Rattle.std.specs.List.{All, filter_map, cons_option}
-use Rattle.std.proofs.lemmas.List.Elements.{All-head, All-tail, All-weaker}
+use Rattle.std.proofs.Common.{ℕ, ◌<◌, ◌^◌, ◌≡◌, List, Option, Some, None, length, refl, subst, arith}
+use Rattle.std.specs.List.{All}
+use Rattle.std.proofs.lemmas.List.Elements.{All-weaker}
 use Rattle.sv_mask.specs.declared.layout.Layout.{Layout}
-use Rattle.sv_model.specs.declared.line.Line.{Line}
-use Rattle.sv_model.specs.declared.line.Line.TheVariants as line
 use Rattle.sv_model.specs.declared.line.Trace.{Trace}
 use Rattle.sv_model.specs.declared.work.Area.{Area}
 use Rattle.sv_model.specs.declared.work.Area.TheVariants.{Bytes, Image}
@@ -14,8 +11,8 @@ use Rattle.sv_model.specs.declared.work.Old.{Old}
 use Rattle.sv_model.specs.declared.work.Step.{Step}
 use Rattle.sv_model.specs.declared.work.Step.TheVariants.{Accesses, Groups, SetEvent, WaitEvent, ResetEvent}
 use Rattle.sv_model.specs.declared.work.Transfer.{Transfer}
-use Rattle.sv_model.specs.Declarations.{Resource, BufferOf, ImageOf, says_resource, resource_of}
-use Rattle.sv_model.specs.Lawful.{IsLawful, IsLawfulResource}
+use Rattle.sv_model.specs.Declarations.{Resource, BufferOf, ImageOf, resource_of}
+use Rattle.sv_model.specs.Lawful.{IsLawful}
 use Rattle.sv_range.specs.declared.span.Cells.{Cells}
 use Rattle.sv_range.specs.declared.span.Span.{Span}
 use Rattle.sv_cellmap.specs.Maps.{HasArea, HasBox, HasSpan}
