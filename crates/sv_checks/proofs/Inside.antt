@@ -1,11 +1,8 @@
 -- What lies inside the resources of a trace may be taken by the space, the layouts and the owners of these resources.
-use Rattle.std.proofs.Common.{ℕ, ◌<◌, ◌≤◌, ◌^◌, ◌≡◌, Bool, true, false, List, [], ◌∷◌, Option, Some, None, length, refl, subst, arith}
-use Rattle.std.specs.Prelude.{slice_get, ◌==◌, if◌then◌else◌}
-use Rattle.std.specs.List.{All, filter_map, cons_option}
-use Rattle.std.proofs.lemmas.List.Elements.{All-head, All-tail, All-weaker}
+use Rattle.std.proofs.Common.{ℕ, ◌<◌, ◌^◌, ◌≡◌, List, Option, Some, None, length, refl, subst, arith}
+use Rattle.std.specs.List.{All}
+use Rattle.std.proofs.lemmas.List.Elements.{All-weaker}
 use Rattle.sv_mask.specs.declared.layout.Layout.{Layout}
-use Rattle.sv_model.specs.declared.line.Line.{Line}
-use Rattle.sv_model.specs.declared.line.Line.TheVariants as line
 use Rattle.sv_model.specs.declared.line.Trace.{Trace}
 use Rattle.sv_model.specs.declared.work.Area.{Area}
 use Rattle.sv_model.specs.declared.work.Area.TheVariants.{Bytes, Image}
@@ -14,11 +11,12 @@ use Rattle.sv_model.specs.declared.work.Old.{Old}
 use Rattle.sv_model.specs.declared.work.Step.{Step}
 use Rattle.sv_model.specs.declared.work.Step.TheVariants.{Accesses, Groups, SetEvent, WaitEvent, ResetEvent}
 use Rattle.sv_model.specs.declared.work.Transfer.{Transfer}
-use Rattle.sv_model.specs.Declarations.{Resource, BufferOf, ImageOf, says_resource, resource_of}
-use Rattle.sv_model.specs.Lawful.{IsLawful, IsLawfulResource}
+use Rattle.sv_model.specs.Declarations.{Resource, BufferOf, ImageOf, resource_of}
+use Rattle.sv_model.specs.Lawful.{IsLawful}
 use Rattle.sv_range.specs.declared.span.Cells.{Cells}
 use Rattle.sv_range.specs.declared.span.Span.{Span}
 use Rattle.sv_cellmap.specs.Maps.{HasArea, HasBox, HasSpan}
+use Rattle.sv_cellmap.proofs.DeclaringLines.{bounded}
 use Rattle.sv_layout.specs.Layouts as layouts
 use Rattle.sv_layout.specs.Taking as layout_taking
 use Rattle.sv_layout.specs.declared.layouts.Layouts.{Layouts}
@@ -32,32 +30,6 @@ use Rattle.sv_space.specs.declared.space.Space.{Space}
 use Rattle.sv_checks.specs.Checked.{Fits, HaveAreas}
 use Rattle.sv_inside.specs.Steps.{IsAccessOf, IsDepOf, IsGroupOf, IsOfImage, IsOldOf, IsRangeOf, IsShortGroup, IsShortStep, IsTransferOf, IsStepOf, MayDeclare}
 use Rattle.sv_checks.specs.declared.checks.Checks.{Checks}
-
--- Images have few mips and layers.
-
-found_with : {X Y : Type 0} (f : X → Option Y) (Q : Y → Type 0) (x : X) (xs : List X) (o : Option Y) → f x ≡ o → ((z : Y) → f x ≡ Some z → Q z) → ((y : Y) → slice_get (filter_map f xs) 0 ≡ Some y → Q y) → (y : Y) → slice_get (cons_option o (filter_map f xs)) 0 ≡ Some y → Q y
-found_with f Q x xs None is here there y e = there y e
-found_with f Q x xs (Some z) is here there y e = let same : z ≡ y = cc in subst Q same (here z is)
-
-found : {X Y : Type 0} (P : X → Type 0) (f : X → Option Y) (Q : Y → Type 0) → ((x : X) (y : Y) → P x → f x ≡ Some y → Q y) → (xs : List X) → All P xs → (y : Y) → slice_get (filter_map f xs) 0 ≡ Some y → Q y
-found P f Q each [] all y e = absurd (let n : None ≡ Some y = e in cc)
-found P f Q each (x ∷ xs) all y e = found_with f Q x xs (f x) refl (λ z w. each x z (All-head P x xs all) w) (found P f Q each xs (All-tail P x xs all)) y e
-
-abbrev Bounded : Resource → Type 0
-Bounded (BufferOf size) = Unit {0}
-Bounded (ImageOf mips layers) = (mips ≤ 16) × (layers ≤ 2048)
-
-bounded_if : (b : Bool) (r s : Resource) → Bounded r → (if b then Some r else None) ≡ Some s → Bounded s
-bounded_if true r s h e = let same : r ≡ s = cc in subst Bounded same h
-bounded_if false r s h e = cc
-
-bounded_line : (n : ℕ) (l : Line) (r : Resource) → IsLawfulResource l → says_resource n l ≡ Some r → Bounded r
-bounded_line n (line.Buffer res size sharing) r h e = bounded_if (res == n) (BufferOf size) r tt e
-bounded_line n (line.Image res mips layers initial sharing) r h e = bounded_if (res == n) (ImageOf mips layers) r (h.2, h.4) e
-bounded_line n other r h e = absurd h
-
-bounded : (t : Trace) → IsLawful t → (n : ℕ) (r : Resource) → resource_of t n ≡ Some r → Bounded r
-bounded t lawful n r e = found IsLawfulResource (says_resource n) Bounded (bounded_line n) t.resources lawful.resources r e
 
 -- Layouts are of images.
 

@@ -1,5 +1,5 @@
 -- A reply that stands for the reply to an event, in greatest runs, is that reply.
-use Rattle.std.proofs.Common.{◌≡◌, ℕ, zero, suc, ◌+◌, ◌-◌, ◌<◌, ◌≤◌, ◌⊎◌, inl, inr, Contains, List, [], ◌∷◌, ◌++◌, length, get_or, map, take, refl, sym, ◌∙◌, ap, subst, arith, append-nil}
+use Rattle.std.proofs.Common.{◌≡◌, ℕ, zero, suc, ◌+◌, ◌-◌, ◌<◌, ◌≤◌, inl, inr, Contains, List, [], ◌∷◌, ◌++◌, length, get_or, map, take, refl, sym, ◌∙◌, ap, subst, arith, append-nil}
 use Rattle.std.specs.List.{All, AllPairs, flat_map, range_with_len}
 use Rattle.std.proofs.lemmas.List.{get_or-map, get_or-take, length-map, length-take-le, map-append, map_more}
 use Rattle.std.proofs.lemmas.List.Concat.{get_or-flat_map}
@@ -7,7 +7,7 @@ use Rattle.std.proofs.lemmas.List.Folds.{length-flat_map-take}
 use Rattle.std.proofs.lemmas.List.FromFn.{length-map-range_with_len}
 use Rattle.sv_model.specs.Cells.{alone, cells_of}
 use Rattle.sv_model.specs.Notes.{AreGreatestNotes, Noted, cells_of_notes, note_cells, notes_in}
-use Rattle.sv_model.specs.Replies.{IsReply, IsReportedIn, among, note_behind, reports_up_to}
+use Rattle.sv_model.specs.Replies.{IsReply, among, note_behind, reports_up_to}
 use Rattle.sv_model.specs.Reports.{IsRun, Spot, SpotBefore, spots, spots_of}
 use Rattle.sv_model.specs.declared.line.Mark.{Mark}
 use Rattle.sv_model.specs.declared.line.Trace.{Trace}
@@ -20,10 +20,10 @@ use Rattle.sv_model.specs.declared.work.Note.{Note}
 use Rattle.sv_model.specs.declared.work.Note.TheVariants as note
 use Rattle.sv_model.specs.declared.work.Reply.{Reply}
 use Rattle.sv_model.specs.declared.work.Report.{Report}
-use Rattle.sv_notes.proofs.JoinedNotes.{cells_more}
-use Rattle.sv_notes.specs.Joined.{AreNoteRuns}
-use Rattle.sv_grouping.specs.Grouped.{IsGrouped, IsNotLater, Moves, StandsFor, moved, reports_before}
-use Rattle.sv_grouping.specs.Runs.{AreRuns, HasRun}
+use Rattle.sv_runs.proofs.JoinedNotes.{cells_more}
+use Rattle.sv_runs.specs.Joined.{AreNoteRuns}
+use Rattle.sv_runs.specs.Runs.{AreRuns}
+use Rattle.sv_grouping.specs.Grouped.{HasRun, IsGrouped, IsNotLater, Moves, StandsFor, moved}
 
 -- ---- the reports come by step
 

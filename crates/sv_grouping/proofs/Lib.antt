@@ -1,3 +1,2 @@
 pub mod GroupedReplies
-pub mod Joining
 pub mod Numbers

@@ -1,18 +1,19 @@
 -- How many of the reports in greatest runs stand for the first of those that were given.
 use Rattle.std.proofs.Common.{◌≡◌, ℕ, zero, suc, ◌+◌, ◌<◌, ◌≤◌, ◌⊎◌, inl, inr, Bool, true, false, List, [], ◌∷◌, ◌++◌, length, get_or, take, refl, sym, ◌∙◌, ap, subst, arith}
-use Rattle.std.specs.Prelude.{cond, count_by, nat_le, sum_by}
+use Rattle.std.specs.Prelude.{cond, nat_le, sum_by}
 use Rattle.std.specs.List.{All, AllPairs}
 use Rattle.std.proofs.Math.Seq.{get_or-append_seam}
 use Rattle.std.proofs.lemmas.Bool.Decides.{leb_tells}
 use Rattle.std.proofs.lemmas.List.{get_or-take, get_or_append_left, length-append, length-take-le, take_all, take_more}
-use Rattle.std.proofs.lemmas.List.Elements.{All-append, All-cons, All-head, All-nil, All-tail, All-take}
-use Rattle.std.proofs.lemmas.List.Sums.{count_by-le-length, count_by_more_no, sum_by-append, sum_by-cons}
+use Rattle.std.proofs.lemmas.List.Elements.{All-append, All-cons, All-head, All-nil, All-tail}
+use Rattle.std.proofs.lemmas.List.Sums.{count_by-le-length, sum_by-append, sum_by-cons}
 use Rattle.sv_model.specs.Replies.{reports_up_to}
 use Rattle.sv_model.specs.Reports.{spots_of, spots}
 use Rattle.sv_model.specs.declared.work.Report.{Report}
-use Rattle.sv_grouping.proofs.Joining.{all_last, runs_none, spots_more, spots_none}
+use Rattle.sv_runs.proofs.JoinedAreas.{all_front, all_last}
+use Rattle.sv_runs.proofs.JoinedReports.{runs_none, spots_more}
+use Rattle.sv_runs.specs.Runs.{AreRuns, Grows, joined}
 use Rattle.sv_grouping.specs.Grouped.{IsNotLater, Moves}
-use Rattle.sv_grouping.specs.Runs.{AreRuns, GoesOn, Grows, joined}
 
 abbrev IsUpTo : ℕ → Report → Type 0
 IsUpTo step r = r.later.step ≤ step
@@ -40,10 +41,6 @@ count_all step (r ∷ rs) all =
     ∙ (let e : 1 + length rs ≡ suc (length rs) = omega arith in e)
 
 -- ---- one more report
-
-all_front : (P : Report → Type 0) (rs : List Report) (a : Report) → All P (rs ++ a ∷ []) → All P rs
-all_front P [] a h = All-nil P
-all_front P (r ∷ rs) a h = All-cons P r rs (All-head P r (rs ++ a ∷ []) h) (all_front P rs a (All-tail P r (rs ++ a ∷ []) h))
 
 grown_up_to : (step : ℕ) (old new : List Report) (r : Report) → Grows old r new → All (IsUpTo step) old → IsUpTo step r → All (IsUpTo step) new
 grown_up_to step old new r (inl g) all here =

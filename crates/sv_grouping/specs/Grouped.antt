@@ -1,16 +1,17 @@
 -- A reply in greatest runs of neighbouring cells.
 use Rattle.std.specs.Prelude.{ℕ, ◌≡◌, ◌≤◌, Contains, List, map}
 use Rattle.std.specs.List.{AllPairs}
+use Rattle.sv_model.specs.Cells.{EndsSmall}
 use Rattle.sv_model.specs.Notes.{AreGreatestNotes, IsNoteRun, cells_of_notes, notes_in}
 use Rattle.sv_model.specs.Replies.{IsReportedIn, among, note_behind, reports_up_to}
-use Rattle.sv_model.specs.Reports.{AreGreatestRuns, Spot, SpotBefore, spots_of}
+use Rattle.sv_model.specs.Reports.{AreGreatestRuns, IsRun, Spot, SpotBefore, spots_of}
 use Rattle.sv_model.specs.declared.line.Mark.{Mark}
 use Rattle.sv_model.specs.declared.line.Trace.{Trace}
 use Rattle.sv_model.specs.declared.work.Note.{Note}
 use Rattle.sv_model.specs.declared.work.Note.TheVariants as note
 use Rattle.sv_model.specs.declared.work.Reply.{Reply}
 use Rattle.sv_model.specs.declared.work.Report.{Report}
-use Rattle.sv_notes.specs.Joined.{EndsWithin}
+use Rattle.sv_runs.specs.Joined.{EndsWithin}
 
 -- how many of the reply's reports stand before the note
 abbrev pub reports_before : Note → ℕ
@@ -23,6 +24,10 @@ reports_before (note.Fence n) = n.reports_before
 -- the note, which stood behind so many reports, behind as many as they now are
 abbrev pub moved : (ℕ → ℕ) → Note → Note
 moved to n = note_behind (to (reports_before n)) n
+
+-- the report is on one run of cells
+abbrev pub HasRun : Report → Type 0
+HasRun r = IsRun r.area × EndsSmall r.area
 
 -- the note is on one run of cells, or on none
 abbrev pub HasNoteRun : Note → Type 0

@@ -4,14 +4,14 @@ ghost use Rattle.sv_model.specs.Replies.{IsReply};
 ghost use Rattle.sv_model.specs.Reports.{spots_of};
 ghost use Rattle.sv_model.specs.declared.line.Mark.{Mark};
 ghost use Rattle.sv_model.specs.declared.line.Trace.{Trace};
-ghost use Rattle.sv_grouping.specs.Grouped.{HasNoteRun, IsGrouped, Moves, StandsFor};
-ghost use Rattle.sv_grouping.specs.Runs.{AreRuns, HasRun};
+ghost use Rattle.sv_runs.specs.Runs.{AreRuns};
+ghost use Rattle.sv_grouping.specs.Grouped.{HasNoteRun, HasRun, IsGrouped, Moves, StandsFor};
 
 use crate::notes::group_notes;
-use crate::runs::add_run;
 use std::alloc::{AllocError, Global};
 use sv_model::work::{Reply, Report};
 use sv_range::List;
+use sv_runs::add_run;
 
 // The reports in greatest runs, and how many they are after each of those that were given.
 fn group_reports(alloc: Global, reports: &[Report]) -> Result<(List<Report>, Vec<u64>), AllocError>

@@ -3,10 +3,8 @@
 
 mod grouping;
 mod notes;
-mod runs;
 
 pub use grouping::group;
-pub use runs::add_run;
 
 #[cfg(test)]
 mod tests;

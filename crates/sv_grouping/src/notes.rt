@@ -2,14 +2,14 @@
 ghost use Rattle.std.specs.Prelude.{◌≡◌, ℕ, All, IfOk, get_or, map};
 ghost use Rattle.sv_model.specs.Notes.{cells_of_notes};
 ghost use Rattle.sv_model.specs.Replies.{note_behind};
-ghost use Rattle.sv_notes.specs.Joined.{AreNoteRuns, EndsWithin};
+ghost use Rattle.sv_runs.specs.Joined.{AreNoteRuns, EndsWithin};
 ghost use Rattle.sv_model.specs.Notes.{IsNoteRun};
 ghost use Rattle.sv_grouping.specs.Grouped.{HasNoteRun, moved, reports_before};
 
 use std::alloc::{AllocError, Global};
 use sv_model::work::{EventNote, FenceNote, LayoutNote, Note, OwnerNote, TimelineNote};
-use sv_notes::add_note;
 use sv_range::List;
+use sv_runs::add_note;
 
 fn reports_before(note: Note) -> u64
     ensures { result ≡ reports_before note }

@@ -1,6 +1,5 @@
 ghost use Rattle.std.specs.Prelude.{◌<◌, All, IfOk};
-ghost use Rattle.sv_grouping.specs.Grouped.{HasNoteRun};
-ghost use Rattle.sv_grouping.specs.Runs.{HasRun};
+ghost use Rattle.sv_grouping.specs.Grouped.{HasNoteRun, HasRun};
 
 use super::*;
 use std::alloc::{AllocError, Global};

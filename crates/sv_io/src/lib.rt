@@ -1,12 +1,15 @@
-//! Sources and sinks of bytes, each with a count of its faults, and reading and writing whole texts.
+//! Sources and sinks of bytes, each with a count of its faults, reading and writing whole texts, and the pace of a
+//! replay.
 #![tactic(auto)]
 
 mod memory;
+mod pace;
 mod standard;
 mod stream;
 mod whole;
 
 pub use memory::{MemSink, MemSource};
+pub use pace::{Idle, Pace};
 pub use standard::{StdSink, StdSource};
 pub use stream::{Failed, Sink, Source};
 pub use whole::{MAX_TEXT, ReadStop, read_all, write_all};

@@ -50,7 +50,7 @@ use Rattle.sv_model.proofs.Growing.{gather-append}
 use Rattle.sv_model.proofs.Lists.{from_flat_map, in_cons, in_cons_cases, in_first}
 use Rattle.sv_model.proofs.NoteGrowth.{enumerated}
 use Rattle.sv_model.proofs.Works.{accesses_on, deps_of, step_at, story_grows, work_below}
-use Rattle.sv_space.specs.Runs.{AreRuns}
+use Rattle.sv_runs.specs.Runs.{AreRuns}
 
 -- Reports.
 

@@ -11,7 +11,7 @@ use Rattle.sv_model.specs.declared.work.Note.{Note}
 use Rattle.sv_model.specs.declared.work.Note.TheVariants as note
 use Rattle.sv_model.specs.declared.work.Reply.{Reply}
 use Rattle.sv_model.specs.declared.work.Step.{Step}
-use Rattle.sv_space.specs.Runs.{AreRuns}
+use Rattle.sv_runs.specs.Runs.{AreRuns}
 
 abbrev pub steps_in : List Bound → List Step
 steps_in steps = map (λ (b : Bound). b.step) steps

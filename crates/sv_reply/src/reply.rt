@@ -9,7 +9,7 @@ ghost use Rattle.sv_model.specs.Replies as spec;
 ghost use Rattle.sv_model.specs.ReplyLaws.{before_end};
 ghost use Rattle.sv_model.specs.Reports.{AreNumbered, AreReportsFrom, IsNumbered, spots_of};
 ghost use Rattle.sv_model.specs.declared.line.Trace.{Trace};
-ghost use Rattle.sv_space.specs.Runs.{AreRuns};
+ghost use Rattle.sv_runs.specs.Runs.{AreRuns};
 ghost use Rattle.sv_reply.specs.Replying.{IsOnNone, IsReplySoFar, steps_in};
 
 use std::alloc::{AllocError, Global};

@@ -1,7 +1,7 @@
 -- What the check of an access on a piece says of the spots of its cells.
 use Rattle.std.proofs.Common.{ℕ, zero, suc, ◌≡◌, ◌<◌, ◌≤◌, ◌+◌, ◌-◌, IsTrue, List, [], ◌∷◌, ◌++◌, ◌⊎◌, inl, inr, map, arith, refl, sym, ◌∙◌, ap, subst, Contains, length, get_or}
 use Rattle.std.specs.List.{AllPairs, range_with_len}
-use Rattle.sv_model.specs.Cells.{covers, CellBefore}
+use Rattle.sv_model.specs.Cells.{covers, CellBefore, EndsSmall}
 use Rattle.sv_model.specs.Chain.{Placed, writes}
 use Rattle.sv_model.specs.Order.{Story, IsClear, IsPartner, IsBelow, NoRaces, kind_of, extended}
 use Rattle.sv_model.specs.Reports.{Spot, SpotBefore, IsRun, spots, story_of, groups_of, accesses_of, IsReported, IsReportedFrom, AreNumbered}
@@ -21,7 +21,6 @@ use Rattle.sv_space.specs.Known.{groups_in, AreKnown}
 use Rattle.sv_space.specs.Lines.{IsInMip, IsOf, IsShaped, cell_on, area_on}
 use Rattle.sv_space.specs.Own.{own_of}
 use Rattle.sv_space.specs.Pieces.{IsPieceOf}
-use Rattle.sv_space.specs.Runs.{IsWithin}
 use Rattle.sv_space.specs.Steps.{IsNext, AreInOrder}
 use Rattle.sv_space.specs.declared.known.Known.{Known}
 use Rattle.sv_space.specs.declared.shape.Shape.{Shape}
@@ -160,10 +159,10 @@ area_run res s span area is order = subst IsRun (sym is) (by_shape s)
     by_shape shape.Bytes = order
     by_shape (shape.Mips mips layers) = (refl, omega (arith, order))
 
-pub area_within : (res : ℕ) (s : Shape) (size : ℕ) (span : Span) (area : Area) → area ≡ area_on res s span → IsShaped s size → span.start < span.end → IsInMip s span → IsWithin area
-area_within res s size span area is shaped order in_mip = subst IsWithin (sym is) (by_shape s shaped in_mip)
+pub area_within : (res : ℕ) (s : Shape) (size : ℕ) (span : Span) (area : Area) → area ≡ area_on res s span → IsShaped s size → span.start < span.end → IsInMip s span → EndsSmall area
+area_within res s size span area is shaped order in_mip = subst EndsSmall (sym is) (by_shape s shaped in_mip)
   where
-    by_shape : (t : Shape) → IsShaped t size → IsInMip t span → IsWithin (area_on res t span)
+    by_shape : (t : Shape) → IsShaped t size → IsInMip t span → EndsSmall (area_on res t span)
     by_shape shape.Bytes shaped in_mip = tt
     by_shape (shape.Mips mips layers) shaped (mip, from, to) =
         let a = (in_mip_at mip layers span.start from (omega (arith, order, to))).1 in

@@ -17,7 +17,7 @@ use Rattle.sv_space.specs.Lines.{cell_on}
 use Rattle.sv_space.specs.Places.{AreListed}
 use Rattle.sv_space.specs.declared.known.Known.{Known}
 use Rattle.sv_space.specs.declared.shape.Shape.{Shape}
-use Rattle.sv_space.proofs.Joining.{ranges}
+use Rattle.sv_runs.proofs.JoinedAreas.{ranges}
 use Rattle.sv_space.proofs.Keeping.{pairs_append}
 
 below_or : (c n : ℕ) → (c < n) ⊎ (n ≤ c)

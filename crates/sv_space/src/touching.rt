@@ -8,7 +8,7 @@ ghost use Rattle.sv_space.specs.AllLines.{AreAllCaught, AreAllCut, AreAllWithin,
 ghost use Rattle.sv_space.specs.Known.{groups_in};
 ghost use Rattle.sv_space.specs.Marked.{IsLineMarked, IsStepOf};
 ghost use Rattle.sv_space.specs.Own.{HaveOwnGroups};
-ghost use Rattle.sv_space.specs.Runs.{AreRuns};
+ghost use Rattle.sv_runs.specs.Runs.{AreRuns};
 ghost use Rattle.sv_space.specs.Sorted.{AreSorted};
 ghost use Rattle.sv_space.specs.declared.line.Line.{Line};
 

@@ -1,5 +1,5 @@
 -- One more step of a work.
-use Rattle.std.specs.Prelude.{Result, Ok, Err, IfOk, OnOk}
+use Rattle.std.specs.Prelude.{Result, Ok, Err, OnOk}
 use Rattle.std.proofs.Common.{ℕ, ◌<◌, ◌≡◌, ◌^◌, List, [], ◌∷◌, ◌++◌, length, refl, sym, ap, subst, ◌∙◌, append_assoc}
 use Rattle.std.specs.List.{All}
 use Rattle.sv_model.specs.Binding.{Bound}
@@ -65,7 +65,3 @@ at_after w c s step notes is none stands replies t event old more m at =
 pub on_ok_two : {A E : Type 0} (r : Result A E) {P Q R : Type 0} → (P → Q → R) → OnOk r P → OnOk r Q → OnOk r R
 on_ok_two (Ok a) f p q = f p q
 on_ok_two (Err e) f p q = tt
-
-pub if_ok_weaker : {A E : Type 0} (r : Result A E) (P Q : A → Type 0) → ((a : A) → P a → Q a) → IfOk r P → IfOk r Q
-if_ok_weaker (Ok a) P Q f p = f a p
-if_ok_weaker (Err e) P Q f p = tt

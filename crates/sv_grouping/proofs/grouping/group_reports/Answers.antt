@@ -1,4 +1,4 @@
-use Rattle.std.proofs.Common.{◌∙◌, ap, refl, List, ℕ, ◌∷◌, ◌++◌, []}
+use Rattle.std.proofs.Common.{◌∙◌, ap, refl, ℕ, ◌∷◌, ◌++◌, []}
 use Rattle.sv_grouping.proofs.Numbers.{one_added, all_added}
 use Rattle.sv_grouping.proofs.grouping.group_reports.Goals as goal
 

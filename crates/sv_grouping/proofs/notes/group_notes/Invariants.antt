@@ -1,6 +1,6 @@
 use Rattle.std.proofs.Common.{◌≡◌, ℕ, get_or, map, take}
 use Rattle.sv_model.specs.Notes.{cells_of_notes}
-use Rattle.sv_notes.specs.Joined.{AreNoteRuns}
+use Rattle.sv_runs.specs.Joined.{AreNoteRuns}
 use Rattle.sv_grouping.specs.Grouped.{moved}
 use Rattle.sv_grouping.proofs.notes.group_notes.Given as goal
 

@@ -8,7 +8,7 @@ use Rattle.sv_space.specs.Found.{AreFound, IsOfFirst}
 use Rattle.sv_space.specs.Known.{groups_in}
 use Rattle.sv_space.specs.Own.{own_of}
 use Rattle.sv_space.specs.Pieces.{IsLineOf}
-use Rattle.sv_space.specs.Runs.{AreRuns}
+use Rattle.sv_runs.specs.Runs.{AreRuns}
 use Rattle.sv_space.specs.Steps.{AreInOrder, IsNext}
 use Rattle.sv_space.proofs.FoundIn.{IsPastIn}
 use Rattle.sv_space.proofs.finding.find.Given as goal

@@ -1,10 +1,10 @@
 use Rattle.std.proofs.Common.{◌++◌, ◌∷◌, [], ◌∙◌, List, ap, arith, length, subst, sym}
 use Rattle.sv_model.specs.Reports.{Spot, spots_of}
 use Rattle.sv_space.specs.Found.{AreFound, IsOfFirst}
-use Rattle.sv_space.specs.Runs.{AreRuns}
+use Rattle.sv_runs.specs.Runs.{AreRuns}
 use Rattle.sv_space.proofs.FoundIn.{found_end, found_start}
 use Rattle.sv_space.proofs.FoundStep.{found_step}
-use Rattle.sv_space.proofs.Joining.{runs_none, spots_none}
+use Rattle.sv_runs.proofs.JoinedReports.{runs_none, spots_none}
 use Rattle.sv_space.proofs.touching.find_all.Goals as goal
 
 pub loop-access-init : goal.loop-access-init

@@ -6,7 +6,7 @@ use Rattle.sv_space.specs.AllLines.{AreAllCaught, AreLinesOf}
 use Rattle.sv_space.specs.Found.{AreFound, IsOfFirst}
 use Rattle.sv_space.specs.Known.{groups_in}
 use Rattle.sv_space.specs.Marked.{IsStepOf}
-use Rattle.sv_space.specs.Runs.{AreRuns}
+use Rattle.sv_runs.specs.Runs.{AreRuns}
 use Rattle.sv_space.proofs.touching.find_all.Given as goal
 
 abbrev pub invariant-loop-access : goal.invariant-loop-access

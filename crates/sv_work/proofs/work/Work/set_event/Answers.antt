@@ -1,15 +1,15 @@
 use Rattle.std.proofs.Common.{sym, subst}
 use Rattle.std.specs.List.{All}
 use Rattle.std.proofs.lemmas.List.Elements.{All-nil}
+use Rattle.std.proofs.lemmas.Result.{IfOk-weaker}
 use Rattle.sv_model.specs.Binding.{set_half}
 use Rattle.sv_inside.specs.Steps.{IsGroupOf}
 use Rattle.sv_inside.proofs.Areas.{halves_are, set_is}
 use Rattle.sv_work.proofs.Turned.{fits_set}
-use Rattle.sv_work.proofs.OneStep.{if_ok_weaker}
 use Rattle.sv_work.proofs.work.Work.set_event.Goals as goal
 
 pub returns-in_ok-self-clause-fits : goal.returns-in_ok-self-clause-fits
-returns-in_ok-self-clause-fits c = if_ok_weaker c.set_halves.result _ _ (λ halves e t all fits. (
+returns-in_ok-self-clause-fits c = IfOk-weaker c.set_halves.result _ _ (λ halves e t all fits. (
   fits_set t c.args.self.now c.set.new.self c.in_ok-self.field-0 c.args.event c.args.run.queue c.args.groups.now c.in_ok-set.ensures.stands all fits,
   subst (All (IsGroupOf t)) (sym e) (halves_are t set_half (set_is t) c.args.self.now.tokens c.as_slice.result.now (subst (All (IsGroupOf t)) (sym c.as_slice.ensures) all)),
 )) c.set_halves.ensures

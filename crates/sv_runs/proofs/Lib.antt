@@ -1,0 +1,3 @@
+pub mod JoinedAreas
+pub mod JoinedNotes
+pub mod JoinedReports
