@@ -1,11 +1,11 @@
 #!/usr/bin/env python3
 """Writes the traces of examples/patterns and examples/frame.
 
-Each pattern is a function that makes the trace of its right form or, where `right` is false, of its broken form. What
-svval owes for a trace, the .out file beside it, is written by hand and not by this program.
+Each pattern is a function that makes the trace of its right form or, where `right` is false, of its broken
+form. What svval owes for a trace, the .out file beside it, is written by hand and not by this program.
 
     make_patterns.py           writes the files
-    make_patterns.py --check   says which committed files differ from what would be written; status 1 where one does
+    make_patterns.py --check   says which files differ from what would be written; status 1 where one does
 """
 import pathlib
 import sys
@@ -78,7 +78,8 @@ def compute_write_then_compute_read(right):
     rec = trace.begin(recorder=0, family=0)
     rec.work(on_bytes(data, "compute_shader", "shader_storage_write", 0, 1024))
     if right:
-        rec.barrier(barrier("compute_shader", "shader_storage_write", "compute_shader", "shader_storage_read"))
+        rec.barrier(barrier("compute_shader", "shader_storage_write", "compute_shader",
+                            "shader_storage_read"))
     rec.work(on_bytes(data, "compute_shader", "shader_storage_read", 0, 1024),
              on_bytes(result, "compute_shader", "shader_storage_write", 0, 1024))
     submit_one(trace, queue, rec)
@@ -150,7 +151,8 @@ def fill_then_copy(right):
     rec.work(on_bytes(target, "clear", "transfer_write", 0, 1024))
     if right:
         rec.barrier(barrier("clear", "transfer_write", "copy", "transfer_write"))
-    rec.work(on_bytes(source, "copy", "transfer_read", 0, 256), on_bytes(target, "copy", "transfer_write", 0, 256))
+    rec.work(on_bytes(source, "copy", "transfer_read", 0, 256),
+             on_bytes(target, "copy", "transfer_write", 0, 256))
     submit_one(trace, queue, rec)
     return trace
 
@@ -232,7 +234,8 @@ def storage_image_then_sampled(right):
     trace, queue = one_queue()
     image = trace.image()
     rec = trace.begin(recorder=0, family=0)
-    rec.barrier(image_barrier("", "", "compute_shader", "shader_storage_write", image, "undefined", "general"))
+    rec.barrier(image_barrier("", "", "compute_shader", "shader_storage_write", image, "undefined",
+                              "general"))
     rec.work(on_cells(image, "compute_shader", "shader_storage_write", "general"))
     rec.barrier(image_barrier("compute_shader", "shader_storage_write" if right else "", "fragment_shader",
                               "shader_sampled_read", image, "general", SAMPLED))
@@ -247,10 +250,11 @@ def texture_upload(right):
     staging, texture = trace.buffer(4096), trace.image()
     rec = trace.begin(recorder=0, family=0)
     rec.barrier(image_barrier("", "", "copy", "transfer_write", texture, "undefined", DST))
-    rec.work(on_bytes(staging, "copy", "transfer_read", 0, 4096), on_cells(texture, "copy", "transfer_write", DST))
+    rec.work(on_bytes(staging, "copy", "transfer_read", 0, 4096),
+             on_cells(texture, "copy", "transfer_write", DST))
     if right:
-        rec.barrier(image_barrier("copy", "transfer_write", "fragment_shader", "shader_sampled_read", texture, DST,
-                                  SAMPLED))
+        rec.barrier(image_barrier("copy", "transfer_write", "fragment_shader", "shader_sampled_read",
+                                  texture, DST, SAMPLED))
     draw(rec, on_cells(texture, "fragment_shader", "shader_sampled_read", SAMPLED))
     submit_one(trace, queue, rec)
     return trace
@@ -262,16 +266,20 @@ def mip_chain_by_blits(right):
     staging, texture = trace.buffer(4096), trace.image(mips=3)
     rec = trace.begin(recorder=0, family=0)
     rec.barrier(image_barrier("", "", "copy|blit", "transfer_write", texture, "undefined", DST, mips=3))
-    rec.work(on_bytes(staging, "copy", "transfer_read", 0, 4096), on_cells(texture, "copy", "transfer_write", DST))
+    rec.work(on_bytes(staging, "copy", "transfer_read", 0, 4096),
+             on_cells(texture, "copy", "transfer_write", DST))
     rec.barrier(image_barrier("copy", "transfer_write", "blit", "transfer_read", texture, DST, SRC))
-    rec.work(on_cells(texture, "blit", "transfer_read", SRC), on_cells(texture, "blit", "transfer_write", DST, mip=1))
+    rec.work(on_cells(texture, "blit", "transfer_read", SRC),
+             on_cells(texture, "blit", "transfer_write", DST, mip=1))
     if right:
-        rec.barrier(image_barrier("blit", "transfer_write", "blit", "transfer_read", texture, DST, SRC, mip=1))
+        rec.barrier(image_barrier("blit", "transfer_write", "blit", "transfer_read", texture, DST, SRC,
+                                  mip=1))
     rec.work(on_cells(texture, "blit", "transfer_read", SRC, mip=1),
              on_cells(texture, "blit", "transfer_write", DST, mip=2))
     rec.barrier(
         image_barrier("blit", "", "fragment_shader", "shader_sampled_read", texture, SRC, SAMPLED, mips=2),
-        image_barrier("blit", "transfer_write", "fragment_shader", "shader_sampled_read", texture, DST, SAMPLED, mip=2))
+        image_barrier("blit", "transfer_write", "fragment_shader", "shader_sampled_read", texture, DST,
+                      SAMPLED, mip=2))
     draw(rec, on_cells(texture, "fragment_shader", "shader_sampled_read", SAMPLED, mips=3))
     submit_one(trace, queue, rec)
     return trace
@@ -358,8 +366,8 @@ def sampled_then_rendered(right):
     rec = trace.begin(recorder=0, family=0)
     color_from_undefined(rec, image)
     draw_color(rec, image)
-    rec.barrier(image_barrier("color_attachment_output", COLOR_WRITE, "fragment_shader", "shader_sampled_read",
-                              image, COLOR, SAMPLED))
+    rec.barrier(image_barrier("color_attachment_output", COLOR_WRITE, "fragment_shader",
+                              "shader_sampled_read", image, COLOR, SAMPLED))
     draw(rec, on_cells(image, "fragment_shader", "shader_sampled_read", SAMPLED))
     rec.barrier(image_barrier("fragment_shader" if right else "top_of_pipe", "", "color_attachment_output",
                               COLOR_ACCESS, image, "undefined", COLOR))
@@ -379,7 +387,8 @@ def rendering_then_resolve(right):
     draw_color(rec, samples)
     rec.barrier(image_barrier("color_attachment_output", COLOR_WRITE, "resolve" if right else "copy",
                               "transfer_read", samples, COLOR, SRC))
-    rec.work(on_cells(samples, "resolve", "transfer_read", SRC), on_cells(image, "resolve", "transfer_write", DST))
+    rec.work(on_cells(samples, "resolve", "transfer_read", SRC),
+             on_cells(image, "resolve", "transfer_write", DST))
     submit_one(trace, queue, rec)
     return trace
 
@@ -423,11 +432,13 @@ def upload_before_a_render_pass(right):
         dep = subpass_dependency("external", 0, "copy|color_attachment_output", "transfer_write",
                                  "fragment_shader|color_attachment_output", f"uniform_read|{COLOR_WRITE}")
     else:
-        dep = subpass_dependency("external", 0, "color_attachment_output", "", "color_attachment_output", COLOR_WRITE)
+        dep = subpass_dependency("external", 0, "color_attachment_output", "", "color_attachment_output",
+                                 COLOR_WRITE)
     render_pass = trace.render_pass([pass_attachment("color", "clear", "store", "undefined", SRC)],
                                     [subpass((0, COLOR))], [dep])
     rec = trace.begin(recorder=0, family=0)
-    rec.work(on_bytes(staging, "copy", "transfer_read", 0, 256), on_bytes(uniforms, "copy", "transfer_write", 0, 256))
+    rec.work(on_bytes(staging, "copy", "transfer_read", 0, 256),
+             on_bytes(uniforms, "copy", "transfer_write", 0, 256))
     rec.begin_pass(render_pass, view(image))
     rec.work(on_bytes(uniforms, "fragment_shader", "uniform_read", 0, 256),
              on_cells(image, "color_attachment_output", COLOR_WRITE, COLOR))
@@ -468,21 +479,22 @@ def produce_and_draw(stage, access, reads, read_access, waits, signals, kind="bi
 @pattern
 def compute_queue_then_graphics_queue(right):
     waits, signals = (["vertex_shader"], ["compute_shader"]) if right else ([], [])
-    return produce_and_draw("compute_shader", "shader_storage_write", "vertex_shader", "shader_storage_read", waits,
-                            signals)
+    return produce_and_draw("compute_shader", "shader_storage_write", "vertex_shader", "shader_storage_read",
+                            waits, signals)
 
 
 @pattern
 def semaphore_waited_at_a_stage(right):
     wait = "vertex_attribute_input" if right else "color_attachment_output"
-    return produce_and_draw("copy", "transfer_write", "vertex_attribute_input", "vertex_attribute_read", [wait],
-                            ["copy"])
+    return produce_and_draw("copy", "transfer_write", "vertex_attribute_input", "vertex_attribute_read",
+                            [wait], ["copy"])
 
 
 @pattern
 def timeline_wait_before_its_signal(right):
     signal = "compute_shader" if right else "copy"
-    return produce_and_draw("compute_shader", "shader_storage_write", "fragment_shader", "shader_storage_read",
+    return produce_and_draw("compute_shader", "shader_storage_write", "fragment_shader",
+                            "shader_storage_read",
                             ["fragment_shader"], [signal], kind="timeline", wait_first=True)
 
 
@@ -495,14 +507,16 @@ def timeline_counts_frames(right):
     first.work(on_bytes(data, "compute_shader", "shader_storage_write", 0, 1024))
     first.end()
     second = trace.begin(recorder=1, family=1)
-    second.barrier(barrier("compute_shader", "shader_storage_write", "compute_shader", "shader_storage_write"))
+    second.barrier(barrier("compute_shader", "shader_storage_write", "compute_shader",
+                           "shader_storage_write"))
     second.work(on_bytes(data, "compute_shader", "shader_storage_write", 0, 1024))
     second.end()
     last = trace.begin(recorder=0, family=0)
     draw(last, on_bytes(data, "fragment_shader", "shader_storage_read", 0, 1024))
     last.end()
     trace.submit(compute, batch(recs=[first], signals=[semaphore_use(frames, "compute_shader", 1)]))
-    trace.submit(compute, batch(recs=[second], signals=[semaphore_use(frames, "compute_shader", 2 if right else 1)]))
+    trace.submit(compute, batch(recs=[second], signals=[semaphore_use(frames, "compute_shader",
+                                                                      2 if right else 1)]))
     trace.submit(graphics, batch(recs=[last], waits=[semaphore_use(frames, "fragment_shader", 2)]))
     return trace
 
@@ -515,12 +529,13 @@ def buffer_changes_its_family(right):
     first = trace.begin(recorder=1, family=1)
     first.work(on_bytes(staging, "copy", "transfer_read", 0, 4096),
                on_bytes(vertices, "copy", "transfer_write", 0, 4096))
-    first.barrier(buffer_barrier("copy", "transfer_write", "", "", vertices, 0, 4096, src_family=1, dst_family=0))
+    first.barrier(buffer_barrier("copy", "transfer_write", "", "", vertices, 0, 4096, src_family=1,
+                                 dst_family=0))
     first.end()
     second = trace.begin(recorder=0, family=0)
     if right:
-        second.barrier(buffer_barrier("vertex_attribute_input", "", "vertex_attribute_input", "vertex_attribute_read",
-                                      vertices, 0, 4096, src_family=1, dst_family=0))
+        second.barrier(buffer_barrier("vertex_attribute_input", "", "vertex_attribute_input",
+                                      "vertex_attribute_read", vertices, 0, 4096, src_family=1, dst_family=0))
     draw(second, on_bytes(vertices, "vertex_attribute_input", "vertex_attribute_read", 0, 4096))
     second.end()
     trace.submit(transfer, batch(recs=[first], signals=[semaphore_use(sem)]))
@@ -535,14 +550,15 @@ def image_changes_its_family(right):
     sem = trace.semaphore("binary")
     first = trace.begin(recorder=1, family=1)
     first.barrier(image_barrier("", "", "copy", "transfer_write", texture, "undefined", DST))
-    first.work(on_bytes(staging, "copy", "transfer_read", 0, 4096), on_cells(texture, "copy", "transfer_write", DST))
+    first.work(on_bytes(staging, "copy", "transfer_read", 0, 4096),
+               on_cells(texture, "copy", "transfer_write", DST))
     if right:
         first.barrier(image_barrier("copy", "transfer_write", "", "", texture, DST, SAMPLED, src_family=1,
                                     dst_family=0))
     first.end()
     second = trace.begin(recorder=0, family=0)
-    second.barrier(image_barrier("fragment_shader", "", "fragment_shader", "shader_sampled_read", texture, DST,
-                                 SAMPLED, src_family=1, dst_family=0))
+    second.barrier(image_barrier("fragment_shader", "", "fragment_shader", "shader_sampled_read", texture,
+                                 DST, SAMPLED, src_family=1, dst_family=0))
     draw(second, on_cells(texture, "fragment_shader", "shader_sampled_read", SAMPLED))
     second.end()
     trace.submit(transfer, batch(recs=[first], signals=[semaphore_use(sem)]))
@@ -557,14 +573,16 @@ def upload(trace, staging, texture):
     """Family 1 copies the texture and releases it to family 0."""
     rec = trace.begin(recorder=1, family=1)
     rec.barrier(image_barrier("", "", "copy", "transfer_write", texture, "undefined", DST))
-    rec.work(on_bytes(staging, "copy", "transfer_read", 0, 4096), on_cells(texture, "copy", "transfer_write", DST))
-    rec.barrier(image_barrier("copy", "transfer_write", "", "", texture, DST, SAMPLED, src_family=1, dst_family=0))
+    rec.work(on_bytes(staging, "copy", "transfer_read", 0, 4096),
+             on_cells(texture, "copy", "transfer_write", DST))
+    rec.barrier(image_barrier("copy", "transfer_write", "", "", texture, DST, SAMPLED, src_family=1,
+                              dst_family=0))
     rec.end()
     return rec
 
 
 def shadow_pass(trace, shadow, render_pass):
-    """The shadow map is drawn: by dynamic rendering between two barriers, or in a render pass that has them inside."""
+    """The shadow map is drawn: by dynamic rendering between two barriers, or in a render pass."""
     rec = trace.begin(recorder=0, family=0)
     draws = [on_cells(shadow, "early_fragment_tests", "depth_stencil_attachment_read", DEPTH),
              on_cells(shadow, "late_fragment_tests", DEPTH_WRITE, DEPTH)]
@@ -573,8 +591,8 @@ def shadow_pass(trace, shadow, render_pass):
         rec.begin_rendering(attachment(shadow, "depth", DEPTH, "clear", "store"))
         rec.work(*draws)
         rec.end_rendering()
-        rec.barrier(image_barrier("late_fragment_tests", DEPTH_WRITE, "fragment_shader", "shader_sampled_read",
-                                  shadow, DEPTH, SAMPLED))
+        rec.barrier(image_barrier("late_fragment_tests", DEPTH_WRITE, "fragment_shader",
+                                  "shader_sampled_read", shadow, DEPTH, SAMPLED))
     else:
         rec.begin_pass(render_pass, view(shadow))
         rec.work(*draws)
@@ -589,16 +607,18 @@ def color_pass(trace, images, buffers, families, between):
     computed, readback = buffers
     rec = trace.begin(recorder=1, family=0)
     rec.barrier(
-        image_barrier("all_commands", "", "fragment_shader", "shader_sampled_read", texture, DST, SAMPLED, **families),
+        image_barrier("all_commands", "", "fragment_shader", "shader_sampled_read", texture, DST, SAMPLED,
+                      **families),
         image_barrier("", "", "color_attachment_output", COLOR_ACCESS, color, "undefined", COLOR))
     draw_color(rec, color, accesses=[on_cells(image, "fragment_shader", "shader_sampled_read", SAMPLED)
                                      for image in (texture, shadow)])
-    rec.barrier(image_barrier("color_attachment_output", COLOR_WRITE, "compute_shader", "shader_sampled_read", color,
-                              COLOR, SAMPLED))
+    rec.barrier(image_barrier("color_attachment_output", COLOR_WRITE, "compute_shader",
+                              "shader_sampled_read", color, COLOR, SAMPLED))
     rec.work(on_cells(color, "compute_shader", "shader_sampled_read", SAMPLED),
              on_bytes(computed, "compute_shader", "shader_storage_write", 0, 4096))
     between(rec)
-    rec.work(on_bytes(computed, "copy", "transfer_read", 0, 4096), on_bytes(readback, "copy", "transfer_write", 0, 4096))
+    rec.work(on_bytes(computed, "copy", "transfer_read", 0, 4096),
+             on_bytes(readback, "copy", "transfer_write", 0, 4096))
     rec.end()
     return rec
 
@@ -606,7 +626,8 @@ def color_pass(trace, images, buffers, families, between):
 TO_COPY = barrier("compute_shader", "shader_storage_write", "copy", "transfer_read")
 
 
-def frame(between=lambda rec: rec.barrier(TO_COPY), event=False, in_pass=False, wait_first=False, acquire=True):
+def frame(between=lambda rec: rec.barrier(TO_COPY), event=False, in_pass=False, wait_first=False,
+          acquire=True):
     trace, graphics, transfer = two_queues()
     staging, texture, shadow, color = trace.buffer(4096), trace.image(), trace.image(), trace.image()
     buffers = trace.buffer(4096), trace.buffer(4096)
@@ -654,7 +675,7 @@ def files():
 
 
 def differing():
-    """The files that are not as this program would write them, and traces of the two folders that it does not write."""
+    """The files that are not as this program would write them, and traces that it does not write."""
     made = dict(files())
     kept = {path for folder in ("patterns", "frame") for path in (EXAMPLES / folder).glob("*.trace")}
     for path in sorted(made.keys() | kept):

@@ -6,8 +6,8 @@ import unittest
 
 import make_patterns
 from trace_writer import (
-    BadLine, Schema, Trace, barrier, batch, check_bytes, image_barrier, names, on_bytes, semaphore_use, subpass,
-    subpass_dependency)
+    BadLine, Schema, Trace, barrier, batch, check_bytes, image_barrier, names, on_bytes, semaphore_use,
+    subpass, subpass_dependency)
 
 ROOT = pathlib.Path(__file__).resolve().parent.parent
 
@@ -40,14 +40,19 @@ BROKEN = [
     ("a number with a point", {"op": "event", "event": 1.0}, "event"),
     ("a null", {"op": "semaphore", "sem": 0, "kind": "timeline", "initial": None}, "initial"),
     ("a version that is not known", {"op": "version", "number": 2}, "number"),
-    ("a first layout that is none", {"op": "image", "res": 0, "mips": 1, "layers": 1, "initial": "general"}, "initial"),
+    ("a first layout that is none", {"op": "image", "res": 0, "mips": 1, "layers": 1, "initial": "general"},
+     "initial"),
     ("a stage that is not known", work(stage="pixel_shader"), "accesses[1].stage"),
     ("a mask in the place of a stage", work(stage="all_commands"), "accesses[1].stage"),
-    ("an access without its end", {"op": "work", "rec": 0, "accesses": [without(ACCESS, "end")]}, "accesses[0]"),
-    ("an image access without its layout", {"op": "work", "rec": 0, "accesses": [ACCESS, without(CELLS, "layout")]},
+    ("an access without its end", {"op": "work", "rec": 0, "accesses": [without(ACCESS, "end")]},
+     "accesses[0]"),
+    ("an image access without its layout", {"op": "work", "rec": 0,
+                                            "accesses": [ACCESS, without(CELLS, "layout")]},
      "accesses[1]"),
-    ("a mask that is no list", {"op": "barrier", "rec": 0, "deps": [ELEMENT | {"src": "copy"}]}, "deps[0].src"),
-    ("an unknown name in a mask", {"op": "barrier", "rec": 0, "deps": [ELEMENT, ELEMENT | {"dst": ["copy", "all"]}]},
+    ("a mask that is no list", {"op": "barrier", "rec": 0, "deps": [ELEMENT | {"src": "copy"}]},
+     "deps[0].src"),
+    ("an unknown name in a mask", {"op": "barrier", "rec": 0,
+                                   "deps": [ELEMENT, ELEMENT | {"dst": ["copy", "all"]}]},
      "deps[1].dst[1]"),
     ("an old layout alone", {"op": "barrier", "rec": 0, "deps": [ELEMENT | IMAGE_PART | {"old": "general"}]},
      "deps[0]"),
@@ -55,7 +60,8 @@ BROKEN = [
      {"op": "barrier", "rec": 0, "deps": [ELEMENT | IMAGE_PART | {"old": "general", "new": "undefined"}]},
      "deps[0].new"),
     ("a family alone",
-     {"op": "barrier", "rec": 0, "deps": [ELEMENT | {"res": 0, "start": 0, "end": 1, "dst_family": 0}]}, "deps[0]"),
+     {"op": "barrier", "rec": 0, "deps": [ELEMENT | {"res": 0, "start": 0, "end": 1, "dst_family": 0}]},
+     "deps[0]"),
     ("no subpass", PASS | {"subpasses": []}, "subpasses"),
     ("both ends external", PASS | {"deps": [PASS_DEP | {"to": "external"}]}, "deps[0]"),
     ("an end that is another text", PASS | {"deps": [PASS_DEP | {"to": "outside"}]}, "deps[0].to"),
@@ -63,7 +69,8 @@ BROKEN = [
      "subpasses[0].uses[0].att"),
     ("a subpass past the list", PASS | {"deps": [PASS_DEP | {"to": 1}]}, "deps[0].to"),
     ("a dependency on an earlier subpass",
-     PASS | {"subpasses": [{"uses": []}, {"uses": []}], "deps": [PASS_DEP | {"from": 1, "to": 0}]}, "deps[0].to"),
+     PASS | {"subpasses": [{"uses": []}, {"uses": []}], "deps": [PASS_DEP | {"from": 1, "to": 0}]},
+     "deps[0].to"),
     ("a batch that is no object", {"op": "submit", "lane": 0, "queue": 0, "batches": [{}, 3]}, "batches[1]"),
     ("a wait without stages", {"op": "submit", "lane": 0, "queue": 0, "batches": [{"waits": [{"sem": 0}]}]},
      "batches[0].waits[0]"),
@@ -101,7 +108,8 @@ class Refusals(unittest.TestCase):
         self.assertEqual([line["op"] for line in trace.lines], ["queue", "buffer", "begin", "barrier"])
 
     def test_a_text_that_is_not_json(self):
-        for text, line in [(b'{"op":"end","rec":\n', 1), (b"\n \t\r\n\xff", 3), (b'{"op":"end","rec":0,"x":NaN}', 1)]:
+        for text, line in [(b'{"op":"end","rec":\n', 1), (b"\n \t\r\n\xff", 3),
+                           (b'{"op":"end","rec":0,"x":NaN}', 1)]:
             with self.subTest(text), self.assertRaises(BadLine) as refused:
                 check_bytes(text)
             self.assertEqual(refused.exception.line, line)
@@ -141,12 +149,15 @@ class Lines(unittest.TestCase):
         trace = Trace()
         trace.version()
         queue = trace.queue(family=3, lane=2)
-        data, image = trace.buffer(16, sharing="concurrent"), trace.image(mips=2, layers=3, initial="preinitialized")
+        data = trace.buffer(16, sharing="concurrent")
+        image = trace.image(mips=2, layers=3, initial="preinitialized")
         sem, event, fence = trace.semaphore("timeline", initial=5), trace.event(), trace.fence(signaled=True)
-        render_pass = trace.render_pass([], [subpass()], [subpass_dependency("external", 0, "", "", "copy", "")])
+        dep = subpass_dependency("external", 0, "", "", "copy", "")
+        render_pass = trace.render_pass([], [subpass()], [dep])
         rec = trace.begin(recorder=1, family=3)
         rec.work(on_bytes(data, "copy", "transfer_read", 0, 16))
-        rec.barrier(image_barrier("copy", None, ["copy", "blit"], "transfer_read", image, "undefined", "general"))
+        rec.barrier(image_barrier("copy", None, ["copy", "blit"], "transfer_read", image, "undefined",
+                                  "general"))
         rec.reset_event(event)
         rec.set_event(event, barrier("", "", "", ""))
         rec.wait_event(event)
@@ -164,7 +175,8 @@ class Lines(unittest.TestCase):
         ops = Schema().root["properties"]["op"]["enum"]
         self.assertEqual({line["op"] for line in trace.lines}, set(ops))
         element = next(line for line in trace.lines if line["op"] == "barrier")["deps"][0]
-        self.assertEqual((element["src"], element["src_access"], element["dst"]), (["copy"], [], ["copy", "blit"]))
+        self.assertEqual((element["src"], element["src_access"], element["dst"]),
+                         (["copy"], [], ["copy", "blit"]))
         submit = next(line for line in trace.lines if line["op"] == "submit")
         self.assertEqual(submit, {
             "op": "submit", "lane": 2, "queue": 0, "fence": 0,
@@ -172,7 +184,8 @@ class Lines(unittest.TestCase):
 
     def test_numbers(self):
         trace = Trace()
-        self.assertEqual([trace.buffer(1), trace.image(), trace.buffer(1, number=9), trace.buffer(1)], [0, 1, 9, 10])
+        self.assertEqual([trace.buffer(1), trace.image(), trace.buffer(1, number=9), trace.buffer(1)],
+                         [0, 1, 9, 10])
         self.assertEqual([trace.event(), trace.fence(), trace.event()], [0, 0, 1])
 
     def test_masks(self):
@@ -192,7 +205,8 @@ class Gallery(unittest.TestCase):
     def test_right_forms_owe_nothing_and_broken_ones_something(self):
         for name in make_patterns.PATTERNS:
             with self.subTest(name):
-                shown = [re.findall(r"^(?:  |held ).*$", (ROOT / "examples" / "patterns" / out).read_text(), re.M)
+                shown = [re.findall(r"^(?:  |held ).*$", (ROOT / "examples" / "patterns" / out).read_text(),
+                                    re.M)
                          for out in (f"{name}.out", f"{name}-broken.out")]
                 self.assertEqual(shown[0], [])
                 self.assertNotEqual(shown[1], [])

@@ -12,9 +12,9 @@
     trace.submit(queue, batch(recs=[rec]))
     trace.write("first.trace")
 
-A mask is a list of names or a text of names joined by "|". A line that is not in its form raises BadLine, which
-names the line, the place in it and the cause. What lines say of each other (that a number is declared, that a
-recording is open) svval checks itself: docs/TRACE.md, "Refusals".
+A mask is a list of names or a text of names joined by "|". A line that is not in its form raises BadLine,
+which names the line, the place in it and the cause. What lines say of each other (that a number is declared,
+that a recording is open) svval checks itself: docs/TRACE.md, "Refusals".
 
 Run as a program with files as arguments, it checks the lines of these traces in the same way.
 """
@@ -140,7 +140,8 @@ def between_members(line):
     for i, subpass in enumerate(line["subpasses"]):
         for k, use in enumerate(subpass["uses"]):
             if use["att"] >= attachments:
-                yield f"subpasses[{i}].uses[{k}].att", f"{use['att']}, and the line has {attachments} attachments"
+                place = f"subpasses[{i}].uses[{k}].att"
+                yield place, f"{use['att']}, and the line has {attachments} attachments"
     for i, dep in enumerate(line["deps"]):
         ends = [dep[end] for end in ("from", "to") if dep[end] != "external"]
         for end in ("from", "to"):
@@ -182,12 +183,14 @@ def on_bytes(res, stage, access, start, end):
 
 def on_cells(res, stage, access, layout, mip=0, mips=1, layer=0, layers=1):
     """An access to mips and layers of an image, in the layout that the command names."""
-    return given(res=res, stage=stage, access=access, mip=mip, mips=mips, layer=layer, layers=layers, layout=layout)
+    return given(res=res, stage=stage, access=access, mip=mip, mips=mips, layer=layer, layers=layers,
+                 layout=layout)
 
 
 def barrier(src, src_access, dst, dst_access):
     """VkMemoryBarrier2."""
-    return {"src": names(src), "src_access": names(src_access), "dst": names(dst), "dst_access": names(dst_access)}
+    return {"src": names(src), "src_access": names(src_access), "dst": names(dst),
+            "dst_access": names(dst_access)}
 
 
 def buffer_barrier(src, src_access, dst, dst_access, res, start, end, src_family=None, dst_family=None):
@@ -286,7 +289,7 @@ class Recording:
 
 
 class Trace:
-    """The lines so far. A call that declares something returns its number: the one given, or the next free one."""
+    """The lines so far. A call that declares something returns its number: the given one, or the next."""
 
     def __init__(self, schema=None):
         self.schema = schema or Schema()
@@ -317,7 +320,8 @@ class Trace:
         return self.declare("buffer", "res", number, size=size, sharing=sharing)
 
     def image(self, mips=1, layers=1, initial=None, sharing=None, number=None):
-        return self.declare("image", "res", number, mips=mips, layers=layers, initial=initial, sharing=sharing)
+        return self.declare("image", "res", number, mips=mips, layers=layers, initial=initial,
+                            sharing=sharing)
 
     def semaphore(self, kind, initial=None, number=None):
         return self.declare("semaphore", "sem", number, kind=kind, initial=initial)
@@ -329,8 +333,8 @@ class Trace:
         return self.declare("fence", "fence", number, signaled=signaled)
 
     def render_pass(self, attachments, subpasses, deps, number=None):
-        return self.declare("render_pass", "pass", number, attachments=list(attachments), subpasses=list(subpasses),
-                            deps=list(deps))
+        return self.declare("render_pass", "pass", number, attachments=list(attachments),
+                            subpasses=list(subpasses), deps=list(deps))
 
     def begin(self, recorder, family, number=None):
         return Recording(self, self.declare("begin", "rec", number, recorder=recorder, family=family))
