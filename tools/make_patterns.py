@@ -206,6 +206,19 @@ def split_barrier(right):
 
 
 @pattern
+def full_barrier(right):
+    trace, queue = one_queue()
+    data = trace.buffer(1024)
+    rec = trace.begin(recorder=0, family=0)
+    rec.work(on_bytes(data, "clear", "transfer_write", 0, 1024))
+    accesses = ("memory_write", "memory_read|memory_write") if right else ("", "")
+    rec.barrier(barrier("all_commands", accesses[0], "all_commands", accesses[1]))
+    rec.work(on_bytes(data, "compute_shader", "shader_storage_read", 0, 1024))
+    submit_one(trace, queue, rec)
+    return trace
+
+
+@pattern
 def frames_in_flight(right):
     trace, queue = one_queue()
     uniforms, staging = trace.buffer(256), trace.buffer(256)
@@ -312,6 +325,24 @@ def depth_attachment_then_sampled(right):
     rec.barrier(image_barrier(TESTS if right else "early_fragment_tests", DEPTH_WRITE, "fragment_shader",
                               "shader_sampled_read", image, DEPTH, SAMPLED_DEPTH))
     draw(rec, on_cells(image, "fragment_shader", "shader_sampled_read", SAMPLED_DEPTH))
+    submit_one(trace, queue, rec)
+    return trace
+
+
+@pattern
+def depth_tested_and_sampled(right):
+    trace, queue = one_queue()
+    image = trace.image()
+    rec = trace.begin(recorder=0, family=0)
+    rec.barrier(image_barrier("", "", TESTS, DEPTH_ACCESS, image, "undefined", DEPTH))
+    draw_depth(rec, image)
+    rec.barrier(image_barrier(TESTS, DEPTH_WRITE, f"{TESTS}|fragment_shader",
+                              "depth_stencil_attachment_read|shader_sampled_read", image, DEPTH,
+                              SAMPLED_DEPTH))
+    rec.begin_rendering(attachment(image, "depth", SAMPLED_DEPTH, "load", "none" if right else "store"))
+    rec.work(on_cells(image, "early_fragment_tests", "depth_stencil_attachment_read", SAMPLED_DEPTH),
+             on_cells(image, "fragment_shader", "shader_sampled_read", SAMPLED_DEPTH))
+    rec.end_rendering()
     submit_one(trace, queue, rec)
     return trace
 
@@ -488,6 +519,25 @@ def semaphore_waited_at_a_stage(right):
     wait = "vertex_attribute_input" if right else "color_attachment_output"
     return produce_and_draw("copy", "transfer_write", "vertex_attribute_input", "vertex_attribute_read",
                             [wait], ["copy"])
+
+
+@pattern
+def upload_then_queue_idle(right):
+    trace = Trace()
+    graphics, transfer = trace.queue(family=0, lane=0), trace.queue(family=1, lane=0)
+    staging, vertices = trace.buffer(4096), trace.buffer(4096, sharing="concurrent")
+    first = trace.begin(recorder=0, family=1)
+    first.work(on_bytes(staging, "copy", "transfer_read", 0, 4096),
+               on_bytes(vertices, "copy", "transfer_write", 0, 4096))
+    first.end()
+    second = trace.begin(recorder=0, family=0)
+    draw(second, on_bytes(vertices, "vertex_attribute_input", "vertex_attribute_read", 0, 4096))
+    second.end()
+    trace.submit(transfer, batch(recs=[first]))
+    if right:
+        trace.wait_queue(transfer)
+    trace.submit(graphics, batch(recs=[second]))
+    return trace
 
 
 @pattern
