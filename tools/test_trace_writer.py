@@ -1,7 +1,13 @@
 #!/usr/bin/env python3
-"""Tests of trace_writer.py and of what make_patterns.py writes with it: python3 tools/test_trace_writer.py"""
+"""Tests of trace_writer.py, of what make_patterns.py writes with it, and of examples/check-examples.
+
+Run: python3 tools/test_trace_writer.py
+"""
 import pathlib
 import re
+import shutil
+import subprocess
+import tempfile
 import unittest
 
 import make_patterns
@@ -210,6 +216,40 @@ class Gallery(unittest.TestCase):
                          for out in (f"{name}.out", f"{name}-broken.out")]
                 self.assertEqual(shown[0], [])
                 self.assertNotEqual(shown[1], [])
+
+
+class CheckExamples(unittest.TestCase):
+    TOTAL = "total events 0 reports 0 notes 0 held 0\n"
+    HELD = "held lane 0 call 0\ntotal events 1 reports 0 notes 0 held 1\n"
+    NOTE = ("event 0 lane 0 call 0 submit queue 0\n  note fence 0 0\n"
+            "total events 1 reports 0 notes 1 held 0\n")
+    REFUSED = "line 1 refused 1 BadJson\n"
+
+    def check(self, owed, written, status):
+        """What check-examples prints last, and its status, where a program writes a text on the one example."""
+        with tempfile.TemporaryDirectory() as name:
+            folder = pathlib.Path(name)
+            shutil.copy(ROOT / "examples" / "check-examples", folder)
+            (folder / "one.trace").write_text("")
+            (folder / "one.out").write_text(owed)
+            (folder / "written").write_text(written)
+            program = folder / "program"
+            program.write_text(
+                f'#!/bin/sh\n[ "$*" = check ] || exit 9\ncat "{folder}/written"\nexit {status}\n')
+            program.chmod(0o755)
+            done = subprocess.run([folder / "check-examples", program], capture_output=True, text=True)
+            return done.stdout.splitlines()[-1], done.returncode
+
+    def test_the_status_goes_with_the_text(self):
+        for owed, status in [(self.TOTAL, 0), (self.HELD, 1), (self.NOTE, 1), (self.REFUSED, 2)]:
+            with self.subTest(owed):
+                self.assertEqual(self.check(owed, owed, status), ("1 passed, 0 failed", 0))
+                self.assertEqual(self.check(owed, owed, status + 1), ("0 passed, 1 failed", 1))
+
+    def test_another_text_fails(self):
+        for written in ["", self.TOTAL[:-1], self.TOTAL * 2, self.TOTAL.replace("0", "1", 1)]:
+            with self.subTest(written):
+                self.assertEqual(self.check(self.TOTAL, written, 0), ("0 passed, 1 failed", 1))
 
 
 if __name__ == "__main__":
