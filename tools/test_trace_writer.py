@@ -226,7 +226,7 @@ class CheckExamples(unittest.TestCase):
     REFUSED = "line 1 refused 1 BadJson\n"
 
     def check(self, owed, written, status):
-        """What check-examples prints last, and its status, where a program writes a text on the one example."""
+        """What check-examples prints last, and its status, of a program and one example."""
         with tempfile.TemporaryDirectory() as name:
             folder = pathlib.Path(name)
             shutil.copy(ROOT / "examples" / "check-examples", folder)
