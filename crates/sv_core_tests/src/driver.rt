@@ -15,7 +15,8 @@ use sv_range::List;
 use sv_report::text as history_text;
 use sv_share::{Board, Book, Brand, Case, Share};
 
-// The actor's next event, where it has one. The reply is kept unless its number is another than that of the event.
+// The actor's next event, where it has one. The reply is kept unless its number is another than that of the
+// event.
 fn step<C: Case, R: Wait>(
     rt: &R,
     device: &Device<C>,

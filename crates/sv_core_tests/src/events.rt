@@ -43,9 +43,10 @@ const WAIT_ON_UNSET_EVENT: &[&str] = &[
     SUBMIT,
 ];
 
-// Each text has one recording and one submit, so there are two whole histories. Where the submit comes first it is
-// held until its recording is published. Its steps then stand under the publication, which released them; they are
-// the same steps in the same order, and their places have the number of the submit, 0.
+// Each text has one recording and one submit, so there are two whole histories. Where the submit comes
+// first it is held until its recording is published. Its steps then stand under the publication, which
+// released them; they are the same steps in the same order, and their places have the number of the submit,
+// 0.
 static ROWS: [Row; 6] = [
     Row {
         text: DYNAMIC_RENDERING_DEPTH,

@@ -93,8 +93,9 @@ static ROWS: [Row; 4] = [
             "total events 6 reports 0 notes 0 held 0",
         ],
     },
-    // Lane 0's submit is held until recordings 1 and 2 are published, and its batch then until lane 1's has signalled. So
-    // the last event releases lane 1's batch, lane 0's, the fence signal and the wait for the fence, in this order.
+    // Lane 0's submit is held until recordings 1 and 2 are published, and its batch then until lane 1's has
+    // signalled. So the last event releases lane 1's batch, lane 0's, the fence signal and the wait for the
+    // fence, in this order.
     Row {
         text: FRAME,
         order: &[L0, L0, R0, R1, R1, L1],

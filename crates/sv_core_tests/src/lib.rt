@@ -1,5 +1,5 @@
-//! Tests of the one-thread validator over whole traces: each event of a text is taken in, in the order of the text
-//! and in other orders of its actors, and what is answered is compared with the text that is owed.
+//! Tests of the one-thread validator over whole traces: each event of a text is taken in, in the order of
+//! the text and in other orders of its actors, and what is answered is compared with the text that is owed.
 #![tactic(auto)]
 
 #[cfg(test)]

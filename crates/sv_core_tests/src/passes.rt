@@ -71,9 +71,10 @@ const SUBPASS_DEPENDENCY_THERE: &[&str] = &[
     SUBMIT,
 ];
 
-// Each text has one recording and one submit, so there are two whole histories. Where the submit comes first it is
-// held until its recording is published. Its steps then stand under the publication, which released them; they are
-// the same steps in the same order, and their places have the number of the submit, 0.
+// Each text has one recording and one submit, so there are two whole histories. Where the submit comes
+// first it is held until its recording is published. Its steps then stand under the publication, which
+// released them; they are the same steps in the same order, and their places have the number of the submit,
+// 0.
 static ROWS: [Row; 10] = [
     Row {
         text: IMPLICIT_EXIT_REACHES_NOTHING,

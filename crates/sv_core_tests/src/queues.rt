@@ -125,8 +125,8 @@ static ROWS: [Row; 17] = [
             "total events 4 reports 0 notes 1 held 0",
         ],
     },
-    // Lane 1's batch waits for the signal of lane 0's, which is held until recording 0 is published. So that publication
-    // releases both, the release first.
+    // Lane 1's batch waits for the signal of lane 0's, which is held until recording 0 is published. So
+    // that publication releases both, the release first.
     Row {
         text: ACQUIRE_MISSING,
         order: &[L1, R1, L0, R0],
@@ -207,7 +207,8 @@ static ROWS: [Row; 17] = [
             "total events 4 reports 0 notes 0 held 0",
         ],
     },
-    // Lane 1's batch is held until lane 0's has signalled, so the read comes behind the write and the signal.
+    // Lane 1's batch is held until lane 0's has signalled, so the read comes behind the write and the
+    // signal.
     Row {
         text: SEMAPHORE_FULL_SIGNAL,
         order: &[R0, R1, L1, L0],
@@ -231,7 +232,8 @@ static ROWS: [Row; 17] = [
             "total events 4 reports 1 notes 0 held 0",
         ],
     },
-    // The first publication lets lane 1's batch onto its queue, where it waits. The second releases lane 0's and then it.
+    // The first publication lets lane 1's batch onto its queue, where it waits. The second releases lane
+    // 0's and then it.
     Row {
         text: SEMAPHORE_NARROW_SIGNAL,
         order: &[L1, L0, R1, R0],

@@ -39,8 +39,8 @@ pub fn joined(alloc: Global, lines: &[&str]) -> Result<Vec<u8>, AllocError> {
     Ok(text)
 }
 
-// Whether the text of the events so far is the one that is owed, both with the replies that the actors got and with
-// those that the validator keeps.
+// Whether the text of the events so far is the one that is owed, both with the replies that the actors got
+// and with those that the validator keeps.
 fn answers(
     alloc: Global,
     trace: &Trace,

@@ -80,8 +80,8 @@ struct Kept {
 }
 
 static KEPT: [Kept; 2] = [
-    // The buffer is cut once, behind the accesses. The write and the read are kept for its first piece, and the read
-    // finds two barriers there that came after the write.
+    // The buffer is cut once, behind the accesses. The write and the read are kept for its first piece, and
+    // the read finds two barriers there that came after the write.
     Kept {
         text: CHAIN_OF_TWO_BARRIERS,
         order: &[R0, L0],
