@@ -2,6 +2,8 @@
 #![tactic(auto)]
 
 #[cfg(test)]
+mod cells;
+#[cfg(test)]
 mod expected;
 #[cfg(test)]
 mod notes;
@@ -9,3 +11,5 @@ mod notes;
 mod races;
 #[cfg(test)]
 mod running;
+#[cfg(test)]
+mod texts;

@@ -1,21 +1,10 @@
 //! What works report. The expected reports and numbers are worked out by hand.
 use crate::expected::{bytes, layers, report, used};
 use crate::running::checks_of;
+use crate::texts::BYTES;
 use std::test::Fail;
 use sv_mask::{Layout, Usage};
 use sv_model::work::{Kind, LayoutNote, Note, What};
-
-// A buffer of 2^40 bytes: a write, a barrier, two reads and another write.
-const BYTES: &str = r#"{"op":"queue","queue":0,"family":0,"lane":0}
-{"op":"buffer","res":0,"size":1099511627776}
-{"op":"begin","rec":0,"recorder":0,"family":0}
-{"op":"work","rec":0,"accesses":[{"res":0,"stage":"copy","access":"transfer_write","start":0,"end":16}]}
-{"op":"barrier","rec":0,"deps":[{"src":["copy"],"src_access":["transfer_write"],"dst":["copy"],"dst_access":["transfer_read","transfer_write"]}]}
-{"op":"work","rec":0,"accesses":[{"res":0,"stage":"copy","access":"transfer_read","start":0,"end":16}]}
-{"op":"work","rec":0,"accesses":[{"res":0,"stage":"copy","access":"transfer_read","start":8,"end":24}]}
-{"op":"work","rec":0,"accesses":[{"res":0,"stage":"copy","access":"transfer_write","start":0,"end":32}]}
-{"op":"end","rec":0}
-"#;
 
 #[test]
 fn reports_are_in_greatest_runs(rt: HostRuntime) -> Result<(), Fail> {

@@ -1,7 +1,9 @@
 //! Recordings of a text that run one after another.
-ghost use Rattle.std.specs.Prelude.{◌≡◌, ◌∷◌, [], IfOk, OnOk, List};
+ghost use Rattle.std.specs.Prelude.{IfOk, OnOk};
 ghost use Rattle.sv_model.specs.Lawful.{IsLawful};
+ghost use Rattle.sv_model.specs.declared.line.Trace.{Trace};
 ghost use Rattle.sv_batch.specs.Running.{AreOf, MayRun};
+ghost use Rattle.sv_work.specs.Works.{WorkFits};
 
 use std::alloc::{AllocError, Global};
 use sv_batch::{Recordings, take_batch};
@@ -48,7 +50,7 @@ fn run(
     number: u32,
 ) -> Result<(), AllocError>
     requires { MayRun work.old recordings.now }
-    ensures { OnOk result (MayRun work.new recordings.now) }
+    ensures { OnOk result ((t : Trace) → AreOf t recordings.now → WorkFits t work.old → WorkFits t work.new) }
 {
     let run = Run {
         queue: number,
@@ -64,12 +66,14 @@ fn run(
         recs,
         signals: List::new(alloc),
     };
-    take_batch(work, recordings, run, &batch)
+    take_batch(work, recordings, run, &batch)?;
+    Ok(())
 }
 
-// What is known after so many of the recordings 0 and 1, each on the queue with its number.
-fn after(alloc: Global, trace: &Trace, count: u32) -> Result<Work, AllocError>
+/// What is known after so many of the recordings 0 and 1, each on the queue with its number.
+pub fn after(alloc: Global, trace: &Trace, count: u32) -> Result<Work, AllocError>
     requires { IsLawful trace.now }
+    ensures { IfOk result (WorkFits trace.now) }
 {
     let recordings = published(alloc, trace)?;
     let mut work = Work::open(alloc, trace)?;
@@ -79,8 +83,8 @@ fn after(alloc: Global, trace: &Trace, count: u32) -> Result<Work, AllocError>
     Ok(work)
 }
 
-/// What is known after so many of the recordings 0 and 1 of the text ran, each on the queue with its number. None
-/// where the text is refused.
+/// What the cells, the reports and the notes are after so many of the recordings 0 and 1 of the text ran. None where
+/// the text is refused.
 pub fn checks_of(alloc: Global, text: &str, count: u32) -> Result<Option<Checks>, AllocError> {
     let Ok(trace) = read_text(alloc, text.as_bytes()) else {
         return Ok(None);
