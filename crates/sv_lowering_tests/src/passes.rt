@@ -1,17 +1,8 @@
 //! The steps of a render pass. The expected ones are worked out by hand.
-ghost use Rattle.std.specs.Prelude.{◌≡◌, ◌∷◌, IsTrue, List, length};
-ghost use Rattle.sv_model.specs.Declarations.{pass_of};
-ghost use Rattle.sv_model.specs.declared.line.Line.{Line};
-ghost use Rattle.sv_pass.specs.Begun.{pass_in};
-
-use crate::items::{Item, items_in, items_of};
-use std::alloc::{AllocError, Global};
+use crate::items::{Item, items_in};
 use std::test::Fail;
-use sv_check::read_text;
 use sv_mask::{Layout, Stages, Usage, Usages};
-use sv_model::line::{Line, Trace};
-use sv_model::work::{Access, Area, Dep, Here, Old, PassPoint, Place, Track, What};
-use sv_pass::lower_pass;
+use sv_model::work::{Access, Area, Dep, Old, Place, Track, What};
 use sv_range::Cells;
 
 // A pass of three subpasses. Attachment 0 is used in the first two with two layouts, attachment 1 in the first one,
@@ -186,92 +177,5 @@ fn a_pass_has_its_groups_loads_and_stores(rt: HostRuntime) -> Result<(), Fail> {
         None => assert!(rt; false, "the text has the recording"),
         Some(items) => assert!(rt; items.as_slice() == expected.as_slice()),
     }
-    Ok(())
-}
-
-// A pass without attachments, with a dependency from outside to its first subpass, and one from that to the second.
-const BARE: &str =
-    r#"{"op":"render_pass","pass":1,"attachments":[],"subpasses":[{"uses":[]},{"uses":[]}],"deps":[{"from":"external","to":0,"src":["copy"],"src_access":["transfer_write"],"dst":["vertex_shader"],"dst_access":["uniform_read"]},{"from":0,"to":1,"src":["fragment_shader"],"src_access":["shader_storage_write"],"dst":["fragment_shader"],"dst_access":["shader_storage_read"]}]}
-"#;
-
-// Whether the line declares the pass with this number, and no attachment of it.
-fn is_bare(line: &Line, pass: u32) -> bool
-    ensures { (rest : List Line) → IsTrue result → length (pass_in (line.now ∷ rest) pass).attachments ≡ 0 }
-{
-    match line {
-        Line::RenderPass {
-            pass: number,
-            attachments,
-            ..
-        } => *number == pass && attachments.len() == 0,
-        _ => false,
-    }
-}
-
-// Whether the first pass that the trace declares is the one with this number, and has no attachment.
-fn begins_bare(trace: &Trace, pass: u32) -> bool
-    ensures { IsTrue result → length (pass_of trace.now pass).attachments ≡ 0 }
-{
-    match trace.passes.as_slice() {
-        [] => false,
-        [line, ..] => is_bare(line, pass),
-    }
-}
-
-// The items of a command of that pass, which stands at step 5 in the instance 7.
-fn bare_items(alloc: Global, at: PassPoint) -> Result<Option<Vec<Item>>, AllocError> {
-    let Ok(trace) = read_text(alloc, BARE.as_bytes()) else {
-        return Ok(None);
-    };
-    if !begins_bare(&trace, 1) {
-        return Ok(None);
-    }
-    let here = Here {
-        rec: 3,
-        family: 0,
-        cmd: 2,
-        step: 5,
-        instance: 7,
-        subpass: None,
-    };
-    let steps = lower_pass(alloc, &trace, 1, &[], at, &here)?;
-    let items = items_of(alloc, steps.as_slice())?;
-    Ok(Some(items))
-}
-
-// Whether these are the items of the command.
-fn gives(alloc: Global, at: PassPoint, expected: &[Item]) -> Result<bool, AllocError> {
-    match bare_items(alloc, at)? {
-        None => Ok(false),
-        Some(items) => Ok(items.as_slice() == expected),
-    }
-}
-
-#[test]
-fn a_pass_without_attachments_has_its_dependencies(rt: HostRuntime) -> Result<(), Fail> {
-    let first = Track::Sub {
-        queue: 0,
-        instance: 7,
-        subpass: 0,
-    };
-    let second = Track::Sub {
-        queue: 0,
-        instance: 7,
-        subpass: 1,
-    };
-    let begin = [
-        Item::Groups,
-        Item::Group(5, place(2)),
-        dep((Track::Queue(0), 1 << 12, 1 << 37), (first, 0x7f8, 1 << 3)),
-        Item::Group(5, place(2)),
-    ];
-    let next = [
-        Item::Groups,
-        Item::Group(5, place(2)),
-        dep((first, 0x1ff, 1 << 22), (second, 0x700, 1 << 21)),
-    ];
-    assert!(rt; gives(rt.alloc(), PassPoint::Begin, &begin)?);
-    assert!(rt; gives(rt.alloc(), PassPoint::Next(1), &next)?);
-    assert!(rt; gives(rt.alloc(), PassPoint::End, &[])?);
     Ok(())
 }
