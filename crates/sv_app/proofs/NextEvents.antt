@@ -1,20 +1,16 @@
 -- The events of the text order come one after another: each is the next of its actor.
 use Rattle.std.proofs.Common.{◌≡◌, ℕ, ◌+◌, ◌<◌, List, [], ◌∷◌, ◌++◌, Option, Some, Contains, IsTrue, is_some, length, get_or, map, take, drop, sym, ◌∙◌, ap, subst}
 use Rattle.std.specs.List.{filter_map}
-use Rattle.std.specs.Prelude.{slice_get}
-use Rattle.std.proofs.lemmas.Option.{slice_get-get_or}
 use Rattle.std.proofs.lemmas.List.{take-append-drop, take_more}
 use Rattle.std.proofs.lemmas.List.Elements.{All-take, filter_map-append}
 use Rattle.std.proofs.Math.Seq.{take-append_seam}
 use Rattle.sv_core.specs.Marks.{IsNextEvent, mark_of}
-use Rattle.sv_model.specs.Declarations.{commands_of, recording_of}
+use Rattle.sv_model.specs.Declarations.{recording_of}
 use Rattle.sv_model.specs.History.{IsHistory, IsOfTrace, IsPrefix, IsWhole, call_by, published_by}
-use Rattle.sv_model.specs.declared.line.Command.{Command}
 use Rattle.sv_model.specs.declared.line.Mark.{Mark}
 use Rattle.sv_model.specs.declared.line.Recording.{Recording}
 use Rattle.sv_model.specs.declared.line.Trace.{Trace}
 use Rattle.sv_model.specs.declared.recorded.Event.{Event}
-use Rattle.sv_record.specs.Contexts.{Context, IsNext}
 use Rattle.sv_rules.proofs.Lists.{some_found}
 
 -- what is said of the first items is said first
@@ -40,13 +36,6 @@ next_event t u i items marks history d e is all whole lt before own =
     subst (λ (x : Trace). IsHistory x (history ++ mark_of e ∷ [])) (sym is)
     (subst (IsHistory t) ((λ j. take (i + 1) (sym all j)) ∙ take_more items i d lt ∙ (λ j. sym (before ∙ ap (take i) (sym all)) j ++ sym own j ∷ []))
     (first_events t (i + 1) marks whole))
-
--- The commands of a recording come one after another.
-
-pub next_command : (t : Trace) (k i : ℕ) (items : List Command) (x : Command) (context : Context) → context ≡ record { trace = t; number = k; pushed = i }
-    → items ≡ commands_of t k → i < length items → x ≡ get_or items i x → IsNext context x
-next_command t k i items x context is all lt at =
-    subst (λ (s : Context). IsNext s x) (sym is) (ap (λ (xs : List Command). slice_get xs i) (sym all) ∙ slice_get-get_or items i x lt ∙ ap Some (sym at))
 
 -- a recording of the trace is found by its number
 pub is_declared : (t : Trace) (k : ℕ) → Contains (map (λ (r : Recording). r.rec) t.recordings) k → IsTrue (is_some (recording_of t k))

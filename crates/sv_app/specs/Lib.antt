@@ -1,5 +1,4 @@
 pub mod Answer
-pub mod Reading
 pub mod Run
 pub mod Status
 pub mod Words

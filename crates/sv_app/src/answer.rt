@@ -5,9 +5,9 @@ ghost use Rattle.sv_model.specs.Lawful.{IsLawful};
 ghost use Rattle.sv_app.specs.Answer.{IsAnswerTo, IsTextOf, is_silent, status_of};
 
 use crate::Status;
-use crate::reading::read_text;
 use crate::validating::validate;
 use std::alloc::{AllocError, Global};
+use sv_check::read_text;
 use sv_model::line::Trace;
 use sv_model::refusal::Fault;
 use sv_model::work::{Held, Reply};

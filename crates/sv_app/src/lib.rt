@@ -2,8 +2,6 @@
 #![tactic(auto)]
 
 mod answer;
-mod reading;
-mod recording;
 mod run;
 mod status;
 mod validating;

@@ -3,17 +3,18 @@ ghost use Rattle.std.specs.Prelude.{◌≡◌, IfOk, false};
 ghost use Rattle.sv_core.specs.Marks.{IsOwn, mark_of};
 ghost use Rattle.sv_model.specs.History.{IsOfTrace};
 ghost use Rattle.sv_model.specs.Lawful.{IsLawful};
+ghost use Rattle.sv_record.specs.Indexed.{IsIndexOf};
 
-use crate::recording::record;
 use std::alloc::{AllocError, Global};
 use sv_core::Validator;
 use sv_model::line::{Mark, Trace};
 use sv_model::recorded::Event;
-use sv_record::passes::Passes;
+use sv_record::index::Index;
+use sv_record::record;
 
-// The event of the mark: a publication carries its recording. The passes are the trace's.
-fn event_of(alloc: Global, trace: &Trace, passes: &Passes, mark: Mark) -> Result<Event, AllocError>
-    requires passes { passes.now ≡ trace.now.passes }
+// The event of the mark: a publication carries its recording. The index is the trace's.
+fn event_of(alloc: Global, trace: &Trace, index: &Index, mark: Mark) -> Result<Event, AllocError>
+    requires indexed { IsIndexOf trace.now index.now }
     requires lawful { IsLawful trace.now }
     requires of_trace { IsOfTrace trace.now mark }
     ensures mark { IfOk result (λ event. mark_of event ≡ mark) }
@@ -21,7 +22,7 @@ fn event_of(alloc: Global, trace: &Trace, passes: &Passes, mark: Mark) -> Result
 {
     match mark {
         Mark::Publish(number) => {
-            let recorded = record(alloc, trace, passes, number)?;
+            let recorded = record(alloc, trace, index, number)?;
             Ok(Event::Publish(recorded))
         }
         Mark::Call { lane, index } => Ok(Event::Call { lane, index }),
@@ -35,10 +36,10 @@ pub fn validate(alloc: Global, trace: &Trace) -> Result<Validator, AllocError>
     ensures history { IfOk result (λ v. v.history ≡ trace.now.text_order) }
     ensures unspent { IfOk result (λ v. v.spent ≡ false) }
 {
-    let passes = Passes::new(alloc, trace)?;
+    let index = Index::new(alloc, trace)?;
     let mut validator = Validator::open(alloc, trace)?;
     for mark in trace.text_order.as_slice() {
-        let event = event_of(alloc, trace, &passes, *mark)?;
+        let event = event_of(alloc, trace, &index, *mark)?;
         if validator.apply(event).is_err() {
             return Err(AllocError);
         }

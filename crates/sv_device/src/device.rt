@@ -1,6 +1,7 @@
-//! The device: the lock, with the board, the trace and its passes beside it.
+//! The device: the lock, with the board, the trace and its index beside it.
 ghost use Rattle.std.specs.Prelude.{◌≡◌, ℕ, ◌+◌, ◌<◌, IfOk, IfErr, OnErr, Some, length, slice_get, slice_index_or, replicate};
 ghost use Rattle.sv_model.specs.Lawful.{IsLawful};
+ghost use Rattle.sv_record.specs.Indexed.{IsIndexOf};
 ghost use Rattle.sv_share.specs.Values.{share_is, book_is};
 ghost use Rattle.sv_device.specs.Actors.{actor_is, actors_of, mark_at, script_of};
 ghost use Rattle.sv_device.specs.Devices.{IsReceipt, IsStopIn};
@@ -16,19 +17,19 @@ use std::sync::{Mutex, Wait};
 use sv_core::{Stop, Validator};
 use sv_model::line::Trace;
 use sv_range::{Duplicate, List};
-use sv_record::passes::Passes;
+use sv_record::index::Index;
 use sv_share::{Board, Book, Case, Receipt, Share};
 
-/// The lock, with the board beside it, and a copy of the trace with its passes, from which recorders record.
+/// The lock, with the board beside it, and a copy of the trace with its index, from which recorders record.
 #[derive(Drop)]
 pub struct Device<C: Case> {
     lock: Mutex<Kept<C>>,
     board: Board,
     trace: Trace,
-    passes: Passes,
+    index: Index,
     ghost named: { board ≡ C.board },
     ghost traced: { trace ≡ C.trace },
-    ghost passed: { passes ≡ C.trace.passes },
+    ghost indexed: { IsIndexOf C.trace index },
 }
 
 impl<C: Case> Device<C> {
@@ -52,14 +53,14 @@ impl<C: Case> Device<C> {
         let all = actors(alloc, trace)?;
         let actors = seated(alloc, trace, all.as_slice(), shares)?;
         let validator = Validator::open(alloc, trace)?;
-        let passes = Passes::new(alloc, trace)?;
+        let index = Index::new(alloc, trace)?;
         let trace = trace.copy()?;
         let lock = Mutex::new(Kept::new(validator, book));
         let device = Device {
             lock,
             board,
             trace,
-            passes,
+            index,
         };
         Ok((device, actors))
     }
@@ -72,7 +73,7 @@ impl<C: Case> Device<C> {
         ensures stands { OnErr result (actor.new ≡ actor.old) }
         ensures cause { IfErr result (IsStopIn C.trace) }
     {
-        let Ok(event) = event_at(&self.trace, &self.passes, actor.who, actor.place) else {
+        let Ok(event) = event_at(&self.trace, &self.index, actor.who, actor.place) else {
             return Err(Stop::Memory);
         };
         let Some(share) = actor.share.take() else {

@@ -7,6 +7,7 @@ use crate::scope::Open;
 use std::alloc::{AllocError, Global};
 use std::marker::Model;
 use std::snapshot::Snapshot;
+use sv_index::RecordingIndex;
 use sv_model::line::{Command, Trace};
 use sv_model::recorded::Recorded;
 use sv_model::work::{Here, Step};
@@ -41,16 +42,23 @@ impl RecordContext {
     ghost use Rattle.std.specs.Prelude.{◌≡◌, ◌+◌, IfOk, IsTrue, OnErr, OnOk, Some, is_some, length, option_map};
     ghost use Rattle.sv_model.specs.Declarations.{recording_of};
     ghost use Rattle.sv_model.specs.Lawful.{IsLawful};
+    ghost use Rattle.sv_index.specs.Indexes.{IsIndexOf};
     ghost use Rattle.sv_record.specs.Contexts.{IsNext, IsWhole};
 
-    /// The context of that recording of the trace, which has the recording, before its first command. Fails
-    /// only for want of memory.
-    pub fn new(alloc: Global, trace: &Trace, number: u32) -> Result<RecordContext, AllocError>
+    /// The context of that recording of the trace, which has the recording, before its first command. The index is
+    /// that of the trace. Fails only for want of memory.
+    pub fn new(
+        alloc: Global,
+        trace: &Trace,
+        recordings: &RecordingIndex,
+        number: u32,
+    ) -> Result<RecordContext, AllocError>
+        requires indexed { IsIndexOf trace.now recordings.now }
         requires lawful { IsLawful trace.now }
         requires declared { IsTrue (is_some (recording_of trace.now number)) }
         ensures { IfOk result (λ context. context ≡ record { trace = trace.now; number = number; pushed = 0 }) }
     {
-        let family = family_of(trace, number);
+        let family = family_of(trace, recordings, number);
         Ok(RecordContext {
             alloc,
             of: Snapshot::of(trace),

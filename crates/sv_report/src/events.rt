@@ -1,6 +1,7 @@
 // The lines of the events of a history.
 ghost use Rattle.std.specs.Prelude.{◌≡◌, ◌++◌, IfOk, OnOk, length, string_bytes};
 ghost use Rattle.std.specs.Option.{option_copied, option_map};
+ghost use Rattle.sv_index.specs.Indexes.{IsIndexOf};
 ghost use Rattle.sv_model.specs.Declarations.{recording_of, call_of};
 ghost use Rattle.std.specs.List.{flat_map};
 ghost use Rattle.sv_report.specs.Notes.{held_line};
@@ -10,19 +11,18 @@ use crate::lines::{push_call, push_publish, push_total};
 use crate::notes::push_held;
 use crate::replies::push_reply;
 use std::alloc::{AllocError, Global};
+use sv_index::RecordingIndex;
 use sv_model::line::{Line, Mark, Trace};
 use sv_model::work::{Held, Reply};
 use sv_range::List;
 
 // The recorder of the recording with this number.
-fn recorder_of(trace: &Trace, rec: u32) -> Option<u32>
+fn recorder_of(trace: &Trace, recordings: &RecordingIndex, rec: u32) -> Option<u32>
+    requires { IsIndexOf trace.now recordings.now }
     ensures { result ≡ option_map (λ r. r.recorder) (recording_of trace.now rec) }
 {
-    trace
-        .recordings
-        .as_slice()
-        .iter()
-        .find(|recording| recording.rec == rec)
+    recordings
+        .find(trace, rec)
         .map(|recording| recording.recorder)
 }
 
@@ -37,18 +37,20 @@ fn call_in(trace: &Trace, lane: u32, index: u32) -> Option<&Line>
 }
 
 /// Appends the line of the event with this number, or nothing where the mark names a recording or call that the
-/// trace does not have.
+/// trace does not have. The index is the trace's.
 #[tactic(auto, unfolding(crate::specs::Text::event_line))]
 pub fn push_event(
     text: &mut String,
     trace: &Trace,
+    recordings: &RecordingIndex,
     number: u64,
     mark: Mark,
 ) -> Result<(), AllocError>
+    requires { IsIndexOf trace.now recordings.now }
     ensures { OnOk result (string_bytes text.new ≡ string_bytes text.old ++ event_line trace.now number mark) }
 {
     match mark {
-        Mark::Publish(rec) => match recorder_of(trace, rec) {
+        Mark::Publish(rec) => match recorder_of(trace, recordings, rec) {
             Some(recorder) => push_publish(text, number, recorder, rec),
             None => Ok(()),
         },
@@ -59,18 +61,20 @@ pub fn push_event(
     }
 }
 
-/// Appends each event's line, and its reply under it.
+/// Appends each event's line, and its reply under it. The index is the trace's.
 pub fn push_events(
     text: &mut String,
     trace: &Trace,
+    recordings: &RecordingIndex,
     marks: &[Mark],
     replies: &[Reply],
 ) -> Result<(), AllocError>
+    requires indexed { IsIndexOf trace.now recordings.now }
     requires one_each { length replies.now ≡ length marks.now }
     ensures { OnOk result (string_bytes text.new ≡ string_bytes text.old ++ events_text trace.now 0 marks.now replies.now) }
 {
     for i in 0..marks.len() {
-        push_event(text, trace, i as u64, marks[i])?;
+        push_event(text, trace, recordings, i as u64, marks[i])?;
         push_reply(text, &replies[i])?;
     }
     Ok(())
@@ -108,19 +112,22 @@ fn note_count(replies: &[Reply]) -> u128
     count
 }
 
-/// Appends the text of a history: each event's line and its reply under it, the held items, and the total.
+/// Appends the text of a history: each event's line and its reply under it, the held items, and the total. The index
+/// is the trace's.
 #[tactic(auto, unfolding(crate::specs::Text::history_text))]
 pub fn push_history(
     text: &mut String,
     trace: &Trace,
+    recordings: &RecordingIndex,
     marks: &[Mark],
     replies: &[Reply],
     held: &[Held],
 ) -> Result<(), AllocError>
+    requires indexed { IsIndexOf trace.now recordings.now }
     requires one_each { length replies.now ≡ length marks.now }
     ensures { OnOk result (string_bytes text.new ≡ string_bytes text.old ++ history_text trace.now marks.now replies.now held.now) }
 {
-    push_events(text, trace, marks, replies)?;
+    push_events(text, trace, recordings, marks, replies)?;
     push_all_held(text, held)?;
     push_total(
         text,
@@ -144,9 +151,11 @@ pub fn text(
     ensures { IfOk result (λ text. text ≡ history_text trace.now marks.now replies.now held.now) }
 {
     let mut text = String::new(alloc);
+    let recordings = RecordingIndex::new(alloc, trace)?;
     push_history(
         &mut text,
         trace,
+        &recordings,
         marks.as_slice(),
         replies.as_slice(),
         held.as_slice(),

@@ -3,6 +3,7 @@ ghost use Rattle.std.specs.Prelude.{◌≡◌, IfOk};
 use super::*;
 use std::alloc::{AllocError, Global};
 use std::test::Fail;
+use sv_index::RecordingIndex;
 use sv_mask::{Access16, Layout, Stage, Usage};
 use sv_model::line::{Line, Mark, Recording, Trace};
 use sv_model::refusal::{Cause, LimitName, Refusal};
@@ -301,8 +302,9 @@ fn a_history(rt: HostRuntime) -> Result<(), Fail> {
     ];
     let replies = [nothing(alloc), reply(alloc)?, nothing(alloc)];
     let held = [Held::Call { lane: 1, index: 1 }];
+    let recordings = RecordingIndex::new(alloc, &trace)?;
     let mut text = String::new(alloc);
-    push_history(&mut text, &trace, &marks, &replies, &held)?;
+    push_history(&mut text, &trace, &recordings, &marks, &replies, &held)?;
     assert_eq!(rt;
         text.as_str(),
         "event 0 recorder 2 publish rec 0\nevent 1 lane 1 call 0 submit queue 3\n  raw res 0 bytes 0..16 transfer_read@copy 1.0.0 rec 0 cmd 1 after transfer_write@copy 1.0.0 rec 0 cmd 0\n  note event 4 1.0.0 rec 0 cmd 2 unset\n  war res 0 bytes 0..16 transfer_write@copy 1.0.0 rec 0 cmd 3 after transfer_read@copy 1.0.0 rec 0 cmd 1\nevent 2 lane 1 call 1 wait_fence fence 5\nheld lane 1 call 1\ntotal events 3 reports 2 notes 1 held 1\n"
@@ -313,11 +315,12 @@ fn a_history(rt: HostRuntime) -> Result<(), Fail> {
 #[test]
 fn events_and_held_items(rt: HostRuntime) -> Result<(), Fail> {
     let trace = trace(rt.alloc())?;
+    let index = RecordingIndex::new(rt.alloc(), &trace)?;
     let mut text = String::new(rt.alloc());
-    push_event(&mut text, &trace, 6, Mark::Publish(1))?;
-    push_event(&mut text, &trace, 7, Mark::Call { lane: 1, index: 2 })?;
-    push_event(&mut text, &trace, 8, Mark::Call { lane: 2, index: 0 })?;
-    push_event(&mut text, &trace, 9, Mark::Call { lane: 1, index: 1 })?;
+    push_event(&mut text, &trace, &index, 6, Mark::Publish(1))?;
+    push_event(&mut text, &trace, &index, 7, Mark::Call { lane: 1, index: 2 })?;
+    push_event(&mut text, &trace, &index, 8, Mark::Call { lane: 2, index: 0 })?;
+    push_event(&mut text, &trace, &index, 9, Mark::Call { lane: 1, index: 1 })?;
     let batch = Held::Batch {
         queue: 3,
         event: 1,

@@ -3,7 +3,7 @@ use Rattle.std.proofs.lemmas.Result.{IfOk-weaker}
 use Rattle.sv_app.proofs.answer.answer.Goals as goal
 
 pub returns-in-Ok : goal.returns-in-Ok
-returns-in-Ok c = IfOk-weaker c.trace_text.result _ _ (λ it is. (Ok c.in-Ok.trace, c.in-Ok.ensures.0, (c.in-Ok.ensures.1, is))) c.trace_text.ensures
+returns-in-Ok c = IfOk-weaker c.trace_text.result _ _ (λ it is. (Ok c.in-Ok.trace, c.in-Ok.ensures.tells, (c.in-Ok.ensures.lawful, is))) c.trace_text.ensures
 
 pub returns-in_ok-line-in-Err-Refused : goal.returns-in_ok-line-in-Err-Refused
 returns-in_ok-line-in-Err-Refused c =

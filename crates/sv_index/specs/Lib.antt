@@ -1,0 +1,3 @@
+-- Where the recordings of a trace stand.
+pub mod Indexes
+pub mod Places
