@@ -1,54 +1,20 @@
 //! Finished recordings.
-ghost use Rattle.std.specs.Prelude.{◌≡◌, IfOk, IfSome, IsTrue, is_some};
-ghost use Rattle.std.specs.Option.{option_copied};
-ghost use Rattle.sv_model.specs.Declarations.{commands_of, recording_of};
+ghost use Rattle.std.specs.Prelude.{◌≡◌, IfOk, IfSome, is_some};
+ghost use Rattle.sv_model.specs.Declarations.{recording_of};
 ghost use Rattle.sv_model.specs.Lawful.{IsLawful};
+ghost use Rattle.sv_record.specs.Indexed.{IsIndexOf};
 
 use std::alloc::{AllocError, Global};
-use sv_model::line::{Command, Recording, Trace};
+use sv_model::line::Trace;
 use sv_model::recorded::Recorded;
-use sv_record::context::RecordContext;
-use sv_record::passes::Passes;
+use sv_record::index::Index;
+use sv_record::record as whole_recording;
 
-fn recording_of(trace: &Trace, number: u32) -> Option<&Recording>
-    ensures { option_copied result ≡ recording_of trace.now number }
-{
-    trace
-        .recordings
-        .as_slice()
-        .iter()
-        .find(|recording| recording.rec == number)
-}
-
-// The commands of the recording with this number.
-fn commands_of(trace: &Trace, number: u32) -> &[Command]
-    ensures { result.now ≡ commands_of trace.now number }
-{
-    match recording_of(trace, number) {
-        Some(recording) => recording.commands.as_slice(),
-        None => &[],
-    }
-}
-
-fn is_declared(trace: &Trace, number: u32) -> bool
+fn is_declared(trace: &Trace, index: &Index, number: u32) -> bool
+    requires { IsIndexOf trace.now index.now }
     ensures { result ≡ is_some (recording_of trace.now number) }
 {
-    recording_of(trace, number).is_some()
-}
-
-// The recording with this number, finished.
-fn finished(alloc: Global, trace: &Trace, number: u32) -> Result<Recorded, AllocError>
-    requires lawful { IsLawful trace.now }
-    requires declared { IsTrue (is_some (recording_of trace.now number)) }
-    ensures trace { IfOk result (λ recorded. recorded.of.value ≡ trace.now) }
-    ensures number { IfOk result (λ recorded. recorded.number ≡ number) }
-{
-    let passes = Passes::new(alloc, trace)?;
-    let mut context = RecordContext::new(alloc, trace, number)?;
-    for command in commands_of(trace, number) {
-        context.push(&passes, command)?;
-    }
-    Ok(context.finish())
+    index.recordings.find(trace, number).is_some()
 }
 
 /// The recording with this number, finished: each of its commands is lowered. None where the trace has no such
@@ -57,8 +23,9 @@ pub fn record(alloc: Global, trace: &Trace, number: u32) -> Result<Option<Record
     requires { IsLawful trace.now }
     ensures { IfOk result (λ found. IfSome found (λ recorded. recorded.of.value ≡ trace.now)) }
 {
-    if is_declared(trace, number) {
-        let recorded = finished(alloc, trace, number)?;
+    let index = Index::new(alloc, trace)?;
+    if is_declared(trace, &index, number) {
+        let recorded = whole_recording(alloc, trace, &index, number)?;
         return Ok(Some(recorded));
     }
     Ok(None)
