@@ -61,3 +61,13 @@ first_fits mips layers mip m layer l few_mips few_layers some_m in_mips some_l i
     let below = first_below mips layers (mips * layers) mip m layer l (omega arith) some_m in_mips some_l in_layers in
     let p = product_fits mips layers few_mips few_layers in
     omega (arith, below, p)
+
+-- two places of lines of one resource are one
+pub line_is : (lines : List Line) → AreSorted lines → (k j : ℕ) → k < length lines → j < length lines → ((d : Line) → (get_or lines k d).res ≡ (get_or lines j d).res) → k ≡ j
+line_is lines sorted k j k_lt j_lt same = elim (less_or_same k j) [
+  | inl before ↦ absurd (let d : Line = some_part lines (omega (arith, k_lt)) in let s = sorted k j d before j_lt in let e = same d in omega (arith, s, e))
+  | inr w ↦ elim w [
+    | inl one ↦ one
+    | inr after ↦ absurd (let d : Line = some_part lines (omega (arith, k_lt)) in let s = sorted j k d after k_lt in let e = same d in omega (arith, s, e))
+  ]
+]

@@ -19,3 +19,7 @@ one_more f xs i d all more lt is add =
 -- the whole list was added
 pub whole : {X : Type 0} (f : X → ℕ) (xs : List X) (i all : ℕ) → length xs ≤ i → all ≡ capped (sum_by f (take i xs)) → all ≡ capped (sum_by f xs)
 whole f xs i all le is = is ∙ ap (λ ys. capped (sum_by f ys)) (take_all i xs le)
+
+-- nothing and nothing more
+pub none_sum : (given more sum : ℕ) → sum ≡ capped (given + more) → given ≡ 0 → more ≡ 0 → sum ≡ 0
+none_sum given more sum is none none_more = is ∙ ap (λ (n : ℕ). capped (n + more)) none ∙ ap (λ (n : ℕ). capped (0 + n)) none_more

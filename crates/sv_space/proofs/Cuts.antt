@@ -11,7 +11,7 @@ use Rattle.sv_range.specs.declared.span.Span.{Span}
 use Rattle.sv_rangemap.specs.Lines.{ArePartsOf, BeginsAt, Cover, HaveSameSpans, IsBoundary, KeepBegins}
 use Rattle.sv_rangemap.specs.declared.part.Part.{Part}
 use Rattle.sv_rangemap.proofs.Pieces.{begins_there, below_size}
-use Rattle.sv_space.specs.Cut.{Covers, IsCutFor, IsCaughtFor, IsPartLater, ArePartsLater}
+use Rattle.sv_space.specs.Cut.{AreApart, ArePlacesOf, Covers, IsCutFor, IsCaughtFor, IsPartLater, ArePartsLater}
 use Rattle.sv_space.specs.Lines.{IsInMip, cell_on}
 use Rattle.sv_space.specs.Pieces.{AreWithin}
 use Rattle.sv_space.specs.declared.known.Known.{Known}
@@ -206,3 +206,13 @@ cut_spans area res s old new same cut = record {
       let l = same.long in
       subst (λ (t : Span). IsInMip s t) (sym (same.spans k d)) (cut.in_mip k n d (omega (arith, l, lt)) (subst (λ (t : Span). InSpan t n) (same.spans k d) has) covered));
 }
+
+-- where only the pieces at the places of an area changed, those with cells of an area apart from it were given as many groups as before
+pub apart_caught : (area at : Area) (n res : ℕ) (s : Shape) (old new : List (Part Known)) → HaveSameSpans old new → IsCutFor area res s old → (places : List ℕ) → ArePlacesOf area res s old places
+    → ((k : ℕ) (d : Part Known) → (Contains places k → ⊥) → get_or new k d ≡ get_or old k d) → AreApart area at → IsCaughtFor at n res s old → IsCaughtFor at n res s new
+apart_caught area at n res s old new same cut places placed others apart was k m d lt has covered =
+    let long = same.long in
+    let k_lt : k < length old = omega (arith, lt, long) in
+    let here : InSpan (get_or old k d).span m = subst (λ (t : Span). InSpan t m) (same.spans k d) has in
+    let free : Contains places k → ⊥ = λ on. (let w = placed.has k d on in apart (cell_on res s m) (cut.whole k w.0 m d k_lt w.1 here w.2) covered) in
+    ap (λ (p : Part Known). p.value.upto) (others k d free) ∙ was k m d k_lt here covered

@@ -7,11 +7,13 @@ use Rattle.sv_model.specs.declared.work.Access.{Access}
 use Rattle.sv_model.specs.declared.work.Area.{Area}
 use Rattle.sv_model.specs.declared.work.Group.{Group}
 use Rattle.sv_model.specs.declared.work.Step.{Step}
+use Rattle.sv_range.specs.Spans.{InSpan}
 use Rattle.sv_range.specs.declared.span.Span.{Span}
+use Rattle.sv_rangemap.proofs.Pieces.{some_part}
 use Rattle.sv_rangemap.specs.Lines.{HaveSameSpans}
 use Rattle.sv_rangemap.specs.declared.part.Part.{Part}
 use Rattle.sv_space.specs.AllLines.{AreAllCaught, AreAllCut, AreLinesOf, AreSameLines, IsRangeOf, LiesAt}
-use Rattle.sv_space.specs.Cut.{Covers, IsCutFor}
+use Rattle.sv_space.specs.Cut.{Covers, IsCaughtFor, IsCutFor}
 use Rattle.sv_space.specs.Known.{groups_in}
 use Rattle.sv_space.specs.Lines.{cell_on}
 use Rattle.sv_space.specs.Marked.{IsLineMarked, IsStepOf}
@@ -114,3 +116,27 @@ lines_stepped accesses groups n first new over same stepped cut work step is cau
     (λ x on_x. cut x (subst (λ (xs : List Access). Contains xs x) (sym is.accesses_is) on_x) k d in_first)
     (λ area range. ranges area (subst (λ (gs : List Group). IsRangeOf gs area) (sym is.groups_is) range) k d in_first))
     (stand k d in_first j e j_in)))
+
+-- each piece was given as many groups as before its accesses were recorded
+pub marked_upto : (accesses : List Access) (groups : List Group) (n : ℕ) → n < length accesses → (old new : Line) → IsLineMarked accesses groups n old new → (k : ℕ) (d : Part Known) → k < length old.pieces.parts.items
+    → (get_or new.pieces.parts.items k d).value.upto ≡ (get_or old.pieces.parts.items k d).value.upto
+marked_upto accesses groups n n_lt old new mark k d lt = by_test (covers (get_or accesses n x).area (cell_on old.res old.shape (get_or old.pieces.parts.items k d).span.start)) refl
+  where
+    x : Access
+    x = some_part accesses (omega (arith, n_lt))
+
+    by_test : (b : Bool) → covers (get_or accesses n x).area (cell_on old.res old.shape (get_or old.pieces.parts.items k d).span.start) ≡ b → (get_or new.pieces.parts.items k d).value.upto ≡ (get_or old.pieces.parts.items k d).value.upto
+    by_test true is = (mark.marked k x d lt is).upto
+    by_test false is = ap (λ (p : Part Known). p.value.upto) (mark.others k x d lt (λ covered. let h : true ≡ false = sym covered ∙ is in cc))
+
+pub marked_caught : (accesses : List Access) (groups : List Group) (n : ℕ) → n < length accesses → (old new : List Line) → AreSameLines old new → ((k : ℕ) (d : Line) → k < length old → IsLineMarked accesses groups n (get_or old k d) (get_or new k d))
+    → (at : Area) (upto : ℕ) → AreAllCaught at upto old → AreAllCaught at upto new
+marked_caught accesses groups n n_lt old new same marked at upto was k d lt =
+    let in_old : k < length old = (let l = same.long in omega (arith, l, lt)) in
+    let l : Line = get_or old k d in
+    let m : Line = get_or new k d in
+    let mark : IsLineMarked accesses groups n l m = marked k d in_old in
+    at_line (λ r s. IsCaughtFor at upto r s m.pieces.parts.items) l m (same.same k d)
+    (λ j c e j_lt has covered. (
+    let j_in : j < length l.pieces.parts.items = (let z = mark.spans.long in omega (arith, z, j_lt)) in
+    marked_upto accesses groups n n_lt l m mark j e j_in ∙ was k d in_old j c e j_in (subst (λ (t : Span). InSpan t c) (mark.spans.spans j e) has) covered))

@@ -1,5 +1,5 @@
 -- Pieces of a line, and their cells.
-use Rattle.std.proofs.Common.{ℕ, ◌≡◌, ◌≢◌, ◌<◌, ◌≤◌, ◌⊎◌, inl, inr, ◌+◌, ◌/◌, ◌%◌, List, length, get_or, drop, arith, refl, sym, ◌∙◌, ap, subst}
+use Rattle.std.proofs.Common.{ℕ, ◌≡◌, ◌≢◌, ◌<◌, ◌≤◌, ◌⊎◌, inl, inr, ◌+◌, ◌/◌, ◌%◌, List, Contains, length, get_or, drop, arith, refl, sym, ◌∙◌, ap, subst}
 use Rattle.std.proofs.lemmas.List.{get_or_default}
 use Rattle.std.proofs.lemmas.Nat.{div-add-mod'}
 use Rattle.std.proofs.Math.Nat.{mod-lt}
@@ -12,7 +12,7 @@ use Rattle.sv_model.specs.declared.work.Group.{Group}
 use Rattle.sv_range.specs.declared.span.Span.{Span}
 use Rattle.sv_rangemap.specs.declared.part.Part.{Part}
 use Rattle.sv_rangemap.specs.Lines.{Cover, ArePartsOf, HaveSameSpans}
-use Rattle.sv_rangemap.proofs.Pieces.{below_size}
+use Rattle.sv_rangemap.proofs.Pieces.{below_size, some_part}
 use Rattle.sv_space.specs.Known.{groups_in, AreKnown, HasGone, MayFollow}
 use Rattle.sv_space.specs.Lines.{IsShaped, IsInMip, IsOf, cell_on, area_on}
 use Rattle.sv_space.specs.Pieces.{IsPieceOf, IsLineOf, IsSameLine}
@@ -119,3 +119,23 @@ then_line old mid new one two = record { res = two.res ∙ one.res; shape = two.
 pub piece_at_same : (work : List Step) (res r : ℕ) (s t : Shape) → r ≡ res → t ≡ s → (p q : Part Known) → (IsPieceOf work r t p → IsPieceOf work r t q) → IsPieceOf work res s p → IsPieceOf work res s q
 piece_at_same work res r s t is_res is_shape p q go =
     subst (λ (u : Shape). IsPieceOf work res u p → IsPieceOf work res u q) is_shape (subst (λ (n : ℕ). IsPieceOf work n t p → IsPieceOf work n t q) is_res go)
+
+-- the pieces at none of the places are as they were
+pub others_more : (places : List ℕ) (i index : ℕ) → i < length places → get_or places i index ≡ index → (first old new : List (Part Known)) → ((k : ℕ) (d : Part Known) → k ≢ index → get_or new k d ≡ get_or old k d)
+    → ((k : ℕ) (d : Part Known) → (Contains places k → ⊥) → get_or old k d ≡ get_or first k d) → (k : ℕ) (d : Part Known) → (Contains places k → ⊥) → get_or new k d ≡ get_or first k d
+others_more places i index lt is first old new others was k d free =
+    let on : Contains places index = (i, lt, is) in
+    others k d (λ same. free (subst (λ (n : ℕ). Contains places n) (sym same) on)) ∙ was k d free
+
+-- the next piece of those that had all groups is given none
+pub none_more : (groups : ℕ) (places : List ℕ) (i index : ℕ) → i < length places → get_or places i index ≡ index → (first old : List (Part Known)) → index < length old → (more : ℕ) → ((d : Part Known) → more + (get_or old index d).value.upto ≡ groups)
+    → ((k : ℕ) (d : Part Known) → (get_or old k d ≡ get_or first k d) ⊎ ((get_or old k d).value.upto ≡ groups)) → ((k : ℕ) (d : Part Known) → Contains places k → (get_or first k d).value.upto ≡ groups) → more ≡ 0
+none_more groups places i index lt is first old listed more adds changed all =
+    let d : Part Known = some_part old (omega (arith, listed)) in
+    let on : Contains places index = (i, lt, is) in
+    let full : (get_or old index d).value.upto ≡ groups = elim (changed index d) [
+      | inl same ↦ ap (λ (p : Part Known). p.value.upto) same ∙ all index d on
+      | inr now ↦ now
+    ] in
+    let a = adds d in
+    omega (arith, a, full)

@@ -98,6 +98,11 @@ module _ (old : List Line) (at : ℕ) (line new : Line) (lt : at < length old) (
     one_caught groups same caught = one_new (λ (l : Line). IsCaughtFor area groups l.res l.shape l.pieces.parts.items) (at_line (λ r s. IsCaughtFor area groups r s new.pieces.parts.items) line new same caught)
         (λ k d k_lt other j n e e_lt has covered. absurd (apart k d k_lt other (covers_res area (get_or old k d).res (get_or old k d).shape n covered)))
 
+  pub one_others : IsSameLine line new → (area : Area) (groups : ℕ) → (IsCaughtFor area groups line.res line.shape line.pieces.parts.items → IsCaughtFor area groups line.res line.shape new.pieces.parts.items) → AreAllCaught area groups old → AreAllCaught area groups lines
+  one_others same area groups go was = one_new (λ (l : Line). IsCaughtFor area groups l.res l.shape l.pieces.parts.items)
+      (at_line (λ r s. IsCaughtFor area groups r s new.pieces.parts.items) line new same (go (subst (λ (l : Line). IsCaughtFor area groups l.res l.shape l.pieces.parts.items) (old_at line) (was at line lt))))
+      (λ k d k_lt other. was k d k_lt)
+
   pub one_stands : (work : List Step) → IsSameLine line new → (IsLineOf work line.res line.shape line.pieces.parts.items → IsLineOf work line.res line.shape new.pieces.parts.items) → AreLinesOf work old → AreLinesOf work lines
   one_stands work same go stand = one_new (λ (l : Line). IsLineOf work l.res l.shape l.pieces.parts.items)
       (at_line (λ r s. IsLineOf work r s new.pieces.parts.items) line new same (go (subst (λ (l : Line). IsLineOf work l.res l.shape l.pieces.parts.items) (old_at line) (stand at line lt))))

@@ -17,11 +17,11 @@ use Rattle.sv_space.specs.Lines.{IsInMip, LiesOn, cell_on}
 use Rattle.sv_space.specs.declared.shape.Shape.{Shape}
 use Rattle.sv_space.specs.declared.shape.Shape.TheVariants as shape
 
-both : (a b : Bool) → (a && b) ≡ true → (a ≡ true) × (b ≡ true)
+pub both : (a b : Bool) → (a && b) ≡ true → (a ≡ true) × (b ≡ true)
 both true b h = (refl, h)
 both false b h = absurd (let k : false ≡ true = h in cc)
 
-together : (a b : Bool) → a ≡ true → b ≡ true → (a && b) ≡ true
+pub together : (a b : Bool) → a ≡ true → b ≡ true → (a && b) ≡ true
 together a b h k = rw h k
 
 -- in one mip, in the words of the line

@@ -5,7 +5,7 @@ use Rattle.sv_model.specs.declared.work.Area.{Area}
 use Rattle.sv_model.specs.declared.work.Dep.{Dep}
 use Rattle.sv_model.specs.declared.work.Group.{Group}
 use Rattle.sv_model.specs.declared.work.Step.{Step}
-use Rattle.sv_rangemap.specs.Lines.{ArePartsOf, HaveSameSpans}
+use Rattle.sv_rangemap.specs.Lines.{ArePartsOf}
 use Rattle.sv_space.specs.Cut.{ArePartsLater, IsCaughtFor, IsCutFor}
 use Rattle.sv_space.specs.Lines.{LiesOn}
 use Rattle.sv_space.specs.Pieces.{AreWithin, IsFresh, IsLineOf, IsSameLine}
@@ -47,9 +47,6 @@ AreAllLater groups new old = (k : ℕ) (d : Line) → k < length old → ArePart
 
 abbrev pub AreAllPartsOf : List Line → List Line → Type 0
 AreAllPartsOf new old = (k : ℕ) (d : Line) → k < length old → ArePartsOf (slice_index_or new k d).pieces.parts.items (slice_index_or old k d).pieces.parts.items
-
-abbrev pub HaveAllSameSpans : List Line → List Line → Type 0
-HaveAllSameSpans old new = (k : ℕ) (d : Line) → k < length old → HaveSameSpans (slice_index_or old k d).pieces.parts.items (slice_index_or new k d).pieces.parts.items
 
 -- the pieces of each line are cut for the area
 abbrev pub AreAllCut : Area → List Line → Type 0

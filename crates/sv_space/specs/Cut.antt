@@ -3,6 +3,7 @@ use Rattle.std.specs.Prelude.{ℕ, ◌≡◌, ◌<◌, ◌≤◌, ◌⊎◌, Lis
 use Rattle.std.specs.List.{AllPairs}
 use Rattle.sv_model.specs.Cells.{covers}
 use Rattle.sv_model.specs.declared.work.Area.{Area}
+use Rattle.sv_model.specs.declared.work.Cell.{Cell}
 use Rattle.sv_range.specs.Spans.{InSpan}
 use Rattle.sv_rangemap.specs.declared.part.Part.{Part}
 use Rattle.sv_space.specs.Lines.{IsInMip, cell_on}
@@ -17,6 +18,10 @@ Covers area res shape number = IsTrue (covers area (cell_on res shape number))
 pub record IsCutFor (area : Area) (res : ℕ) (shape : Shape) (parts : List (Part Known)) : Type 0 where
   pub whole : (k n m : ℕ) (d : Part Known) → k < length parts → InSpan (slice_index_or parts k d).span n → InSpan (slice_index_or parts k d).span m → Covers area res shape n → Covers area res shape m
   pub in_mip : (k n : ℕ) (d : Part Known) → k < length parts → InSpan (slice_index_or parts k d).span n → Covers area res shape n → IsInMip shape (slice_index_or parts k d).span
+
+-- no cell is of both areas
+abbrev pub AreApart : Area → Area → Type 0
+AreApart area other = (cell : Cell) → IsTrue (covers area cell) → IsTrue (covers other cell) → ⊥
 
 -- the pieces that have cells of the area were given so many groups
 abbrev pub IsCaughtFor : Area → ℕ → ℕ → Shape → List (Part Known) → Type 0

@@ -4,7 +4,7 @@ ghost use Rattle.sv_model.specs.Cells as cells;
 ghost use Rattle.sv_range.specs.Spans.{EndsBefore};
 ghost use Rattle.sv_range.specs.Lines.{InSome};
 ghost use Rattle.sv_rangemap.specs.Lines.{ArePartsOf, ArePlaces, BeginsAt, IsBoundary, KeepBegins};
-ghost use Rattle.sv_space.specs.Lines.{IsShaped, IsShaped-prop, IsInMip, LiesOn, area_on, cell_on};
+ghost use Rattle.sv_space.specs.Lines.{IsShaped, IsShaped-prop, IsInMip, LiesOn, area_on, cell_on, first_on};
 
 use crate::cutting::cut;
 use crate::known::Known;
@@ -74,7 +74,8 @@ fn first_cell(span: Span) -> Span
 /// The number on the line of the first cell of an area.
 pub fn first_of(shape: Shape, area: &Area) -> u64
     requires { (res size : ℕ) × IsShaped shape size × LiesOn res shape size area.now }
-    ensures { (res size : ℕ) → IsShaped shape size → LiesOn res shape size area.now → result < size }
+    ensures below { (res size : ℕ) → IsShaped shape size → LiesOn res shape size area.now → result < size }
+    ensures is { result ≡ first_on shape area.now }
 {
     match (*area, shape) {
         (Area::Bytes { span, .. }, _) => span.start,
@@ -102,12 +103,13 @@ pub fn spans_of(alloc: Global, shape: Shape, area: Area) -> Result<List<Span>, A
 }
 
 impl Line {
+    ghost use Rattle.sv_model.specs.declared.work.Area.{Area};
     ghost use Rattle.std.specs.Prelude.{◌≢◌, Contains, List, slice_index_or};
     ghost use Rattle.sv_model.specs.Reports.{AreNumbered};
     ghost use Rattle.sv_model.specs.declared.work.Step.{Step};
     ghost use Rattle.sv_rangemap.specs.Lines.{HaveSameSpans};
     ghost use Rattle.sv_rangemap.specs.declared.part.Part.{Part};
-    ghost use Rattle.sv_space.specs.Cut.{ArePartsLater, IsCaughtFor, IsCutFor};
+    ghost use Rattle.sv_space.specs.Cut.{AreApart, ArePartsLater, IsCaughtFor, IsCutFor};
     ghost use Rattle.sv_space.specs.Known.{groups_in};
     ghost use Rattle.sv_space.specs.Pieces.{AreWithin, IsFresh, IsLineOf, IsPieceOf, IsSameLine};
     ghost use Rattle.sv_space.specs.declared.known.Known.{Known};
@@ -135,6 +137,7 @@ impl Line {
             → IsPieceOf work self.old.res self.old.shape (slice_index_or self.old.pieces.parts.items index d)
             → IsPieceOf work self.old.res self.old.shape (slice_index_or self.new.pieces.parts.items index d)) }
         ensures upto { OnOk result ((d : Part Known) → (slice_index_or self.new.pieces.parts.items index d).value.upto ≡ length log.now) }
+        ensures given { IfOk result (λ given. (d : Part Known) → given + (slice_index_or self.old.pieces.parts.items index d).value.upto ≡ length log.now) }
     {
         let (span, _) = self.pieces.piece(index);
         let at = area_of(self.res, self.shape, first_cell(span));
@@ -160,6 +163,9 @@ impl Line {
             → IsLineOf work self.old.res self.old.shape self.old.pieces.parts.items → IsLineOf work self.old.res self.old.shape self.new.pieces.parts.items) }
         ensures later { OnOk result (ArePartsLater (length log.now) self.new.pieces.parts.items self.old.pieces.parts.items) }
         ensures caught { OnOk result ((k : ℕ) (d : Part Known) → Contains places.now k → (slice_index_or self.new.pieces.parts.items k d).value.upto ≡ length log.now) }
+        ensures others { OnOk result ((k : ℕ) (d : Part Known) → (Contains places.now k → ⊥)
+            → slice_index_or self.new.pieces.parts.items k d ≡ slice_index_or self.old.pieces.parts.items k d) }
+        ensures none { IfOk result (λ given. ((k : ℕ) (d : Part Known) → Contains places.now k → (slice_index_or self.old.pieces.parts.items k d).value.upto ≡ length log.now) → given ≡ 0) }
     {
         let mut given = 0u64;
         for place in places {
@@ -181,6 +187,9 @@ impl Line {
         ensures later { OnOk result (ArePartsLater (length log.now) self.new.pieces.parts.items self.old.pieces.parts.items) }
         ensures cut { OnOk result (IsCutFor area self.old.res self.old.shape self.new.pieces.parts.items) }
         ensures caught { OnOk result (IsCaughtFor area (length log.now) self.old.res self.old.shape self.new.pieces.parts.items) }
+        ensures others { OnOk result ((at : Area) (n : ℕ) → AreApart area at → IsCaughtFor at n self.old.res self.old.shape self.old.pieces.parts.items
+            → IsCaughtFor at n self.old.res self.old.shape self.new.pieces.parts.items) }
+        ensures none { IfOk result (λ given. IsCaughtFor area (length log.now) self.old.res self.old.shape self.old.pieces.parts.items → given ≡ 0) }
     {
         cut(alloc, self, area)?;
         let places = places_of(alloc, self, area)?;

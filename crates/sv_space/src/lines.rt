@@ -1,5 +1,5 @@
 //! All lines: the line of an area, and what is done to its pieces.
-ghost use Rattle.std.specs.Prelude.{◌≡◌, ◌<◌, ◌≤◌, ℕ, Contains, List, OnOk, Some, length, slice_index_or};
+ghost use Rattle.std.specs.Prelude.{◌≡◌, ◌<◌, ◌≤◌, ℕ, Contains, IfOk, List, OnOk, Some, length, slice_index_or};
 ghost use Rattle.sv_model.specs.Cells.{area_resource};
 ghost use Rattle.sv_model.specs.Reports.{AreNumbered};
 ghost use Rattle.sv_model.specs.declared.work.Access.{Access};
@@ -7,6 +7,7 @@ ghost use Rattle.sv_model.specs.declared.work.Area.{Area};
 ghost use Rattle.sv_model.specs.declared.work.Dep.{Dep};
 ghost use Rattle.sv_model.specs.declared.work.Step.{Step};
 ghost use Rattle.sv_space.specs.AllLines.{AreAllCaught, AreAllCut, AreAllLater, AreAllPartsOf, AreAllWithin, AreLinesOf, AreSameLines, IsRangeOf, LieIn, LiesAt, LiesIn};
+ghost use Rattle.sv_space.specs.Cut.{AreApart};
 ghost use Rattle.sv_space.specs.Known.{groups_in};
 ghost use Rattle.sv_space.specs.Sorted.{AreSorted, IsPlaceOf};
 ghost use Rattle.sv_space.specs.declared.line.Line.{Line};
@@ -69,6 +70,8 @@ fn prepare_area(
     ensures later { OnOk result (AreAllLater (length log.now) lines.new.items lines.old.items) }
     ensures cut { OnOk result (AreAllCut area lines.new.items) }
     ensures caught { OnOk result (AreAllCaught area (length log.now) lines.new.items) }
+    ensures others { OnOk result ((at : Area) (n : ℕ) → AreApart area at → AreAllCaught at n lines.old.items → AreAllCaught at n lines.new.items) }
+    ensures none { IfOk result (λ given. AreAllCaught area (length log.now) lines.old.items → given ≡ 0) }
 {
     let at = place_of(lines, area);
     let line = &mut lines[at];
@@ -90,6 +93,9 @@ pub fn prepare(
     ensures stands { OnOk result ((work : List Step) → AreNumbered work → log.now ≡ groups_in work → AreLinesOf work lines.old.items → AreLinesOf work lines.new.items) }
     ensures cut { OnOk result ((x : Access) → Contains accesses.now x → AreAllCut x.area lines.new.items) }
     ensures caught { OnOk result ((x : Access) → Contains accesses.now x → AreAllCaught x.area (length log.now) lines.new.items) }
+    ensures others { OnOk result ((at : Area) (n : ℕ) → ((x : Access) → Contains accesses.now x → AreApart x.area at)
+        → AreAllCaught at n lines.old.items → AreAllCaught at n lines.new.items) }
+    ensures none { IfOk result (λ given. ((x : Access) → Contains accesses.now x → AreAllCaught x.area (length log.now) lines.old.items) → given ≡ 0) }
 {
     let mut given = 0u64;
     for access in accesses {

@@ -87,6 +87,7 @@ pub fn record_all(
         → ((x : Access) → Contains accesses.now x → AreAllCaught x.area (length (groups_in work)) lines.old.items)
         → ((area : Area) → IsRangeOf groups.now area → AreAllCut area lines.old.items)
         → AreLinesOf work lines.old.items → AreLinesOf (work ++ step ∷ []) lines.new.items) }
+    ensures upto { OnOk result ((at : Area) (n : ℕ) → AreAllCaught at n lines.old.items → AreAllCaught at n lines.new.items) }
 {
     for number in 0..accesses.len() {
         record_one(alloc, lines, accesses, groups, number)?;

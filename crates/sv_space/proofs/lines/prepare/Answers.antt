@@ -1,7 +1,8 @@
-use Rattle.std.proofs.Common.{List, Contains, arith, length, subst}
+use Rattle.std.proofs.Common.{List, Contains, refl, arith, length, subst}
 use Rattle.std.proofs.lemmas.List.{get_or_default, take_all}
 use Rattle.sv_model.specs.declared.work.Access.{Access}
 use Rattle.sv_space.specs.AllLines.{AreAllCaught, AreAllCut}
+use Rattle.sv_space.proofs.Counted.{none_sum}
 use Rattle.sv_space.proofs.Taken.{each_more, none_yet}
 use Rattle.sv_space.proofs.OneLine.{all_caught_later, all_cut_later, lies_same, lines_same, same_then, sorted_same}
 use Rattle.sv_space.proofs.lines.prepare.Goals as goal
@@ -11,6 +12,9 @@ loop-access-init c = record {
   same = lines_same c.args.lines.now.items;
   within = c.requires.within;
   stands = λ work are log_is stand. stand;
+  others = λ at n apart caught. caught;
+  still = λ at caught. caught;
+  none = λ all. refl;
   cut = none_yet c.args.accesses.now (λ x. AreAllCut x.area c.args.lines.now.items);
   caught = none_yet c.args.accesses.now (λ x. AreAllCaught x.area (length c.args.log.now) c.args.lines.now.items);
 }
@@ -42,6 +46,9 @@ loop-access-preserved c =
       same = same_then first old new was.same one.same;
       within = one.within;
       stands = λ work are log_is stand. one.stands work are log_is (was.stands work are log_is stand);
+      others = λ at m apart caught. one.others at m (apart _ (i, lt, get_or_default xs i _ _ lt)) (was.others at m apart caught);
+      still = λ at caught. all_caught_later old new one.same n one.later at (was.still at caught);
+      none = λ all. none_sum c.loop-access.given c.in_ok-more.more c.saturating_add-given.result c.saturating_add-given.ensures (was.none all) (one.none (was.still _ (all _ (i, lt, get_or_default xs i _ _ lt))));
       cut = each_more xs i _ lt (get_or_default xs i _ _ lt) (λ x. AreAllCut x.area old) (λ x. AreAllCut x.area new) (λ x was_cut. all_cut_later old new one.same n one.later x.area was_cut) one.cut was.cut;
       caught = each_more xs i _ lt (get_or_default xs i _ _ lt) (λ x. AreAllCaught x.area n old) (λ x. AreAllCaught x.area n new) (λ x was_caught. all_caught_later old new one.same n one.later x.area was_caught) one.caught was.caught;
     }

@@ -1,11 +1,11 @@
 use Rattle.std.proofs.Common.{◌<◌, ◌≡◌, ◌∙◌, List, ap, arith, get_or, length, subst, sym}
 use Rattle.std.proofs.lemmas.List.{get_or_default}
-use Rattle.std.proofs.lemmas.Result.{on_ok_weaker}
+use Rattle.std.proofs.lemmas.Result.{IfOk-weaker, on_ok_weaker}
 use Rattle.sv_space.specs.AllLines.{LiesAt}
-use Rattle.sv_space.specs.Cut.{ArePartsLater}
+use Rattle.sv_space.specs.Cut.{ArePartsLater, IsCaughtFor}
 use Rattle.sv_space.specs.declared.line.Line.{Line}
 use Rattle.sv_space.proofs.Cuts.{later_same}
-use Rattle.sv_space.proofs.OneLine.{line_within, one_caught, one_cut, one_line, one_stands, one_within, same_lines}
+use Rattle.sv_space.proofs.OneLine.{line_within, one_caught, one_cut, one_line, one_others, one_stands, one_within, same_lines}
 use Rattle.sv_space.proofs.lines.prepare_area.Goals as goal
 
 pub prepare-requires-clause-lies : goal.prepare-requires-clause-lies
@@ -42,4 +42,6 @@ returns c =
       later = on_ok_weaker c.prepare.result (λ later k d k_lt. one_line old at line new lt is (λ (l m : Line). ArePartsLater n m.pieces.parts.items l.pieces.parts.items) (λ l. later_same n l.pieces.parts.items) later k d) c.prepare.ensures.later;
       cut = on_ok_weaker c.prepare.result (one_cut old at line new lt is c.requires.sorted c.args.area lies c.prepare.ensures.line) c.prepare.ensures.cut;
       caught = on_ok_weaker c.prepare.result (one_caught old at line new lt is c.requires.sorted c.args.area lies n c.prepare.ensures.line) c.prepare.ensures.caught;
+      others = on_ok_weaker c.prepare.result (λ others area m apart was. one_others old at line new lt is c.prepare.ensures.line area m (others area m apart) was) c.prepare.ensures.others;
+      none = IfOk-weaker c.prepare.result _ _ (λ given none was. none (subst (λ (l : Line). IsCaughtFor c.args.area n l.res l.shape l.pieces.parts.items) (sym is) (was at line lt))) c.prepare.ensures.none;
     }

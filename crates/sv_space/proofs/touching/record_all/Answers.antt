@@ -1,5 +1,5 @@
 use Rattle.std.proofs.Common.{arith, get_or}
-use Rattle.sv_space.proofs.LineStepped.{line_stepped, line_stepped_none, lines_cut, lines_stepped}
+use Rattle.sv_space.proofs.LineStepped.{line_stepped, line_stepped_none, lines_cut, lines_stepped, marked_caught}
 use Rattle.sv_space.proofs.OneLine.{lies_same, lines_same, same_then, sorted_same}
 use Rattle.sv_space.proofs.touching.record_all.Goals as goal
 
@@ -7,6 +7,7 @@ pub loop-number-init : goal.loop-number-init
 loop-number-init c = record {
   same = lines_same c.args.lines.now.items;
   within = λ n h. h;
+  upto = λ at n caught. caught;
   stepped = λ k d lt. line_stepped_none c.args.accesses.now c.args.groups.now (get_or c.args.lines.now.items k d);
 }
 
@@ -28,6 +29,7 @@ loop-number-preserved c =
     let new = c.record_one.new.lines.items in record {
       same = same_then first old new was.same one.same;
       within = λ n h. one.within n (was.within n h);
+      upto = λ at n caught. marked_caught c.args.accesses.now c.args.groups.now c.loop-number.number c.loop-number-test.true old new one.same one.marked at n (was.upto at n caught);
       stepped = λ k d lt. line_stepped c.args.accesses.now c.args.groups.now c.loop-number.number (get_or first k d) (get_or old k d) (get_or new k d) (was.same.same k d) c.loop-number-test.true
           (one.marked k d (let l = was.same.long in omega (arith, l, lt))) (was.stepped k d lt);
     }

@@ -1,6 +1,7 @@
 use Rattle.std.proofs.Common.{◌≡◌, arith, get_or, length, subst}
 use Rattle.std.proofs.lemmas.List.{get_or_default}
-use Rattle.sv_space.proofs.Lining.{caught_more, changed_more, line_caught, piece_at_same, then_line, then_spans}
+use Rattle.sv_space.proofs.Lining.{caught_more, changed_more, line_caught, none_more, others_more, piece_at_same, then_line, then_spans}
+use Rattle.sv_space.proofs.Counted.{none_sum}
 use Rattle.sv_space.proofs.Cuts.{later_spans}
 use Rattle.sv_space.proofs.line.Line.catch_up.Goals as goal
 
@@ -27,6 +28,9 @@ loop-place-preserved c =
           (λ d. piece_at_same work first.res c.loop-place.self.res first.shape c.loop-place.self.shape was.same.res was.same.shape (get_or old _ d) (get_or new _ d) (one.caught work d are log_is))
           (was.stands work are log_is of);
       changed = changed_more (length c.args.log.now) _ first.pieces.parts.items old new one.others one.upto was.changed;
+      others = others_more places i _ c.loop-place-test.true (get_or_default places i _ _ c.loop-place-test.true) first.pieces.parts.items old new one.others was.others;
+      none = λ all. none_sum c.loop-place.given c.in_ok-more.more c.saturating_add-given.result c.saturating_add-given.ensures (was.none all)
+          (none_more (length c.args.log.now) places i _ c.loop-place-test.true (get_or_default places i _ _ c.loop-place-test.true) first.pieces.parts.items old (let long = was.spans.long in let h = c.requires.listed (get_or places i 0) (i, c.loop-place-test.true, get_or_default places i (get_or places i 0) 0 c.loop-place-test.true) in omega (arith, long, h)) c.in_ok-more.more one.given was.changed all);
       caught = caught_more (length c.args.log.now) places i _ c.loop-place-test.true (get_or_default places i _ _ c.loop-place-test.true) old new one.others one.upto was.caught;
     }
 

@@ -37,3 +37,9 @@ returns-clause-caught c = λ work d are log_is of.
     piece_caught work c.args.self.now.res c.args.self.now.shape c.args.log.now are log_is c.args.index pieces.parts.items c.replace-spare.new.self.parts.items d c.piece.result.0 c.replace-known.result c.catch_up.new.self r.0
     (c.piece.ensures d ∙ ap (λ (k : Known). record { span = c.piece.result.0; value = k }) had) (again.at d) c.in_ok-given.ensures.upto
     (c.in_ok-given.ensures.gone (cell_on c.args.self.now.res c.args.self.now.shape c.piece.result.0.start) (only_at c.args.self.now.res c.args.self.now.shape c.piece.result.0.start c.first_cell.result c.area_of-at.result c.first_cell.ensures c.area_of-at.ensures)) of
+
+pub returns-clause-given : goal.returns-clause-given
+returns-clause-given c = λ d. (
+    let e = c.in_ok-given.ensures.given in
+    let u = ap (λ (k : Known). k.upto) (c.replace-known.ensures.had d) in
+    omega (arith, e, u))

@@ -1,8 +1,8 @@
 use Rattle.std.proofs.Common.{ℕ, List, Contains, length, subst, sym}
-use Rattle.std.proofs.lemmas.Result.{on_ok_weaker}
+use Rattle.std.proofs.lemmas.Result.{IfOk-weaker, on_ok_weaker}
 use Rattle.sv_space.specs.Cut.{ArePlacesOf}
 use Rattle.sv_space.specs.Pieces.{IsLineOf}
-use Rattle.sv_space.proofs.Cuts.{caught_for, cut_later, later_of_parts, later_then, within_later}
+use Rattle.sv_space.proofs.Cuts.{apart_caught, caught_for, caught_later, cut_later, later_of_parts, later_then, within_later}
 use Rattle.sv_space.proofs.Lining.{line_split}
 use Rattle.sv_space.proofs.OneLine.{back_line}
 use Rattle.sv_space.proofs.line.Line.prepare.Goals as goal
@@ -50,3 +50,24 @@ returns-clause-caught c = on_ok_weaker c.catch_up.result (λ caught. (
     let placed : ArePlacesOf c.args.area old.res old.shape mid.pieces.parts.items c.in_ok-places.places.items = back_line (λ r s. ArePlacesOf c.args.area r s mid.pieces.parts.items c.in_ok-places.places.items) old mid c.cut.ensures.line c.in_ok-places.ensures in
     caught_for c.args.area (length c.args.log.now) old.res old.shape mid.pieces.parts.items c.catch_up.new.self.pieces.parts.items c.catch_up.ensures.spans c.in_ok-places.places.items placed.all
     (λ k d on. caught k d (subst (λ (xs : List ℕ). Contains xs k) (sym c.as_slice.ensures.value) on)))) c.catch_up.ensures.caught
+
+pub returns-clause-others : goal.returns-clause-others
+returns-clause-others c = on_ok_weaker c.catch_up.result (λ others at n apart was. (
+    let old = c.args.self.now in
+    let mid = c.cut.new.line in
+    let placed : ArePlacesOf c.args.area old.res old.shape mid.pieces.parts.items c.in_ok-places.places.items = back_line (λ r s. ArePlacesOf c.args.area r s mid.pieces.parts.items c.in_ok-places.places.items) old mid c.cut.ensures.line c.in_ok-places.ensures in
+    apart_caught c.args.area at n old.res old.shape mid.pieces.parts.items c.catch_up.new.self.pieces.parts.items c.catch_up.ensures.spans c.in_ok-cut.ensures.cut c.in_ok-places.places.items placed
+    (λ k d free. others k d (λ on. free (subst (λ (xs : List ℕ). Contains xs k) c.as_slice.ensures.value on))) apart
+    (caught_later n mid.pieces.parts.items old.pieces.parts.items (later_of_parts n mid.pieces.parts.items old.pieces.parts.items c.cut.ensures.parts) at old.res old.shape was))) c.catch_up.ensures.others
+
+pub returns-clause-none : goal.returns-clause-none
+returns-clause-none c = IfOk-weaker c.catch_up.result _ _ (λ given none was. (
+    let n = length c.args.log.now in
+    let old = c.args.self.now in
+    let mid = c.cut.new.line in
+    let placed : ArePlacesOf c.args.area old.res old.shape mid.pieces.parts.items c.in_ok-places.places.items = back_line (λ r s. ArePlacesOf c.args.area r s mid.pieces.parts.items c.in_ok-places.places.items) old mid c.cut.ensures.line c.in_ok-places.ensures in
+    let caught = caught_later n mid.pieces.parts.items old.pieces.parts.items (later_of_parts n mid.pieces.parts.items old.pieces.parts.items c.cut.ensures.parts) c.args.area old.res old.shape was in
+    none (λ k d on.
+    let here : Contains c.in_ok-places.places.items k = subst (λ (xs : List ℕ). Contains xs k) c.as_slice.ensures.value on in
+    let w = placed.has k d here in
+    caught k w.0 d (placed.listed k here) w.1 w.2))) c.catch_up.ensures.none
