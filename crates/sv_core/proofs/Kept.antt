@@ -3,20 +3,18 @@ use Rattle.std.proofs.Common.{◌≡◌, Bool, true, false, List, [], ◌∷◌,
 use Rattle.sv_model.specs.History.{IsHistory, IsWhole}
 use Rattle.sv_model.specs.Lawful.{IsLawful}
 use Rattle.sv_model.specs.Replies.{AreReplies, IsReply}
-use Rattle.sv_model.specs.Work.{work_steps}
 use Rattle.sv_model.specs.declared.line.Mark.{Mark}
 use Rattle.sv_model.specs.declared.line.Trace.{Trace}
 use Rattle.sv_model.specs.declared.work.Reply.{Reply}
-use Rattle.sv_space.specs.Space.{IsSpaceOf}
 use Rattle.sv_onward.proofs.WholeReplies.{replies_go_on}
 use Rattle.sv_core.specs.Going.{AreReady, AreReadyUnlessSpent}
-use Rattle.sv_core.specs.State.{Holds}
+use Rattle.sv_core.specs.State.{Holds, IsSpaceAfter}
 use Rattle.sv_core.specs.declared.parts.Parts.{Parts}
 use Rattle.sv_core.proofs.Lacking.{lacks, none_yet}
 
-pub space_stands : (t : Trace) (history : List Mark) (spent : Bool) (p : Parts) → AreReadyUnlessSpent spent t history p → spent ≡ false → IsSpaceOf p.work.checks.space (work_steps t history)
+pub space_stands : (t : Trace) (history : List Mark) (spent : Bool) (p : Parts) → AreReadyUnlessSpent spent t history p → spent ≡ false → IsSpaceAfter t history p.work.checks.space
 space_stands t history true p ready e = absurd (let f : true ≡ false = e in cc)
-space_stands t history false p ready e = ready.stands.steps.space
+space_stands t history false p ready e = record { stands = ready.stands.steps.space; resources = ready.fits.areas.space }
 
 -- before any event
 pub holds_first : (t : Trace) (p : Parts) → IsLawful t → AreReady t [] p → Holds t [] [] false p

@@ -1,11 +1,14 @@
 -- What contracts see of a validator, and what holds of every one.
-use Rattle.std.specs.Prelude.{List, Bool, true, false}
+use Rattle.std.specs.Prelude.{◌≡◌, List, Bool, true, false}
 use Rattle.sv_model.specs.History.{IsHistory, IsWhole}
 use Rattle.sv_model.specs.Lawful.{IsLawful}
 use Rattle.sv_model.specs.Replies.{AreReplies}
+use Rattle.sv_model.specs.Work.{work_steps}
 use Rattle.sv_model.specs.declared.line.Mark.{Mark}
 use Rattle.sv_model.specs.declared.line.Trace.{Trace}
 use Rattle.sv_model.specs.declared.work.Reply.{Reply}
+use Rattle.sv_space.specs.Space.{HasResources, IsSpaceOf}
+use Rattle.sv_space.specs.declared.space.Space.{Space}
 use Rattle.sv_core.specs.Going.{AreReadyUnlessSpent}
 use Rattle.sv_core.specs.declared.parts.Parts.{Parts}
 
@@ -15,6 +18,15 @@ pub record State : Type 0 where
   pub history : List Mark
   pub replies : List Reply
   pub spent : Bool
+
+-- the space has the resources of the trace, and stands for the work of the history
+pub record IsSpaceAfter (t : Trace) (history : List Mark) (space : Space) : Type 0 where
+  pub stands : IsSpaceOf space (work_steps t history)
+  pub resources : HasResources t space
+
+-- so it is with the space of a validator that is not spent
+abbrev pub IsSpaceIn : State → Space → Type 0
+IsSpaceIn v space = v.spent ≡ false → IsSpaceAfter v.trace v.history space
 
 -- the history of a spent validator lacks the event that it stopped at
 abbrev pub LacksIfSpent : Bool → Trace → List Mark → Type 0

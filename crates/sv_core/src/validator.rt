@@ -47,10 +47,10 @@ pub struct Counts {
 impl Validator {
     ghost use Rattle.sv_model.specs.Flow.{held_items};
     ghost use Rattle.sv_model.specs.Lawful.{IsLawful};
-    ghost use Rattle.sv_model.specs.Work.{work_steps};
-    ghost use Rattle.sv_space.specs.Space.{IsSpaceOf, pieces_in, kept_in, given_in};
+    ghost use Rattle.sv_space.specs.Space.{pieces_in, kept_in, given_in};
     ghost use Rattle.sv_space.specs.declared.space.Space.{Space};
     ghost use Rattle.sv_core.specs.Marks.{IsNextEvent, IsOwn, IsStop, mark_of};
+    ghost use Rattle.sv_core.specs.State.{IsSpaceIn};
 
     /// The validator before any event. The places of the history and of the replies are reserved for all events.
     pub fn open(alloc: Global, trace: &Trace) -> Result<Validator, AllocError>
@@ -129,14 +129,14 @@ impl Validator {
 
     /// The number of accesses that are kept for the pieces of the space, or 2^64 - 1 where it is above that.
     pub fn kept_total(&self) -> u64
-        ensures { (space : Space) × (self.now.spent ≡ false → IsSpaceOf space (work_steps self.now.trace self.now.history)) × (result ≡ kept_in space) }
+        ensures { (space : Space) × IsSpaceIn self.now space × (result ≡ kept_in space) }
     {
         self.parts.work.checks.space.kept_total()
     }
 
     /// The counts of the space.
     pub fn counts(&self) -> Counts
-        ensures { (space : Space) × (self.now.spent ≡ false → IsSpaceOf space (work_steps self.now.trace self.now.history)) × (result ≡ record { pieces = pieces_in space; installed = 0; caught_up = given_in space }) }
+        ensures { (space : Space) × IsSpaceIn self.now space × (result ≡ record { pieces = pieces_in space; installed = 0; caught_up = given_in space }) }
     {
         let space = &self.parts.work.checks.space;
         Counts {

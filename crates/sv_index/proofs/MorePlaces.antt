@@ -10,7 +10,6 @@ use Rattle.std.proofs.Math.Seq.{get_or-append_seam}
 use Rattle.sv_model.specs.declared.line.Recording.{Recording}
 use Rattle.sv_index.specs.Places.{IsPlaceOf, first_of}
 
-
 more_cells : (rs : List Recording) (x : Recording) → length (rs ++ x ∷ []) ≡ length rs + 1
 more_cells rs x = length-append rs (x ∷ [])
 
@@ -33,9 +32,11 @@ place_more : (rs : List Recording) (x : Recording) (n : ℕ) (old : Option ℕ) 
     → IsPlaceOf (rs ++ x ∷ []) n (option_or old (if x.rec == n then Some (length rs) else None))
 place_more rs x n (Some place) is =
     let lt : place < length (rs ++ x ∷ []) = (let m : length (rs ++ x ∷ []) ≡ length rs + 1 = more_cells rs x in omega (arith, is.0, m)) in
-    let at : first_of rs n ≡ Some (get_or rs place x) = is.1 ∙ slice_get-get_or rs place x is.0 in
-    (lt, found_more rs x n ∙ ap (λ (o : Option Recording). option_or o (if x.rec == n then Some x else None)) at
-    ∙ sym at ∙ is.1 ∙ sym (same_place rs x place is.0))
+    let at : first_of rs n ≡ Some (get_or rs place x) = is.1 ∙ slice_get-get_or rs place x is.0 in (
+      lt,
+      found_more rs x n ∙ ap (λ (o : Option Recording). option_or o (if x.rec == n then Some x else None)) at
+          ∙ sym at ∙ is.1 ∙ sym (same_place rs x place is.0),
+    )
 place_more rs x n None is = by_test (x.rec == n) (found_more rs x n ∙ ap (λ (o : Option Recording). option_or o (if x.rec == n then Some x else None)) is) where
   by_test : (b : Bool) → first_of (rs ++ x ∷ []) n ≡ (if b then Some x else None) → IsPlaceOf (rs ++ x ∷ []) n (if b then Some (length rs) else None)
   by_test true found = ((let m : length (rs ++ x ∷ []) ≡ length rs + 1 = more_cells rs x in omega (arith, m)), found ∙ sym (last_place rs x))

@@ -318,9 +318,27 @@ fn events_and_held_items(rt: HostRuntime) -> Result<(), Fail> {
     let index = RecordingIndex::new(rt.alloc(), &trace)?;
     let mut text = String::new(rt.alloc());
     push_event(&mut text, &trace, &index, 6, Mark::Publish(1))?;
-    push_event(&mut text, &trace, &index, 7, Mark::Call { lane: 1, index: 2 })?;
-    push_event(&mut text, &trace, &index, 8, Mark::Call { lane: 2, index: 0 })?;
-    push_event(&mut text, &trace, &index, 9, Mark::Call { lane: 1, index: 1 })?;
+    push_event(
+        &mut text,
+        &trace,
+        &index,
+        7,
+        Mark::Call { lane: 1, index: 2 },
+    )?;
+    push_event(
+        &mut text,
+        &trace,
+        &index,
+        8,
+        Mark::Call { lane: 2, index: 0 },
+    )?;
+    push_event(
+        &mut text,
+        &trace,
+        &index,
+        9,
+        Mark::Call { lane: 1, index: 1 },
+    )?;
     let batch = Held::Batch {
         queue: 3,
         event: 1,

@@ -1,14 +1,12 @@
-use Rattle.std.proofs.Common.{◌≡◌, false, subst}
-use Rattle.sv_model.specs.Work.{work_steps}
-use Rattle.sv_space.specs.Space.{IsSpaceOf}
-use Rattle.sv_core.specs.State.{State}
+use Rattle.std.proofs.Common.{subst}
+use Rattle.sv_core.specs.State.{IsSpaceIn, State}
 use Rattle.sv_core.proofs.Kept.{space_stands}
 use Rattle.sv_core.proofs.validator.Validator.counts.Goals as goal
 
 pub returns : goal.returns
 returns c = (
   c.self.inside.parts.work.checks.space,
-  subst (λ (v : State). v.spent ≡ false → IsSpaceOf c.self.inside.parts.work.checks.space (work_steps v.trace v.history)) c.self.view_is
+  subst (λ (v : State). IsSpaceIn v c.self.inside.parts.work.checks.space) c.self.view_is
       (space_stands c.self.inside.trace c.self.inside.history c.self.inside.spent c.self.inside.parts c.self.invariant.ready),
   (λ j. record { pieces = c.pieces.ensures j; installed = 0; caught_up = c.caught_up.ensures j }),
 )
