@@ -1,6 +1,6 @@
 //! Barriers: scopes, chains, ranges, a recording that is submitted twice.
 use crate::lines::{BEGIN, BUFFER, COPY_READS, COPY_WRITES, END, QUEUE, SUBMIT};
-use crate::rows::{L0, R0, Row, differing};
+use crate::rows::{L0, REC0, Row, differing};
 use std::test::Fail;
 
 const ACCESS_SCOPE_NOT_LATER_STAGES: &[&str] = &[
@@ -79,7 +79,7 @@ const RESUBMITTED_RECORDING: &[&str] = &[
 static ROWS: [Row; 13] = [
     Row {
         text: ACCESS_SCOPE_NOT_LATER_STAGES,
-        order: &[R0, L0],
+        order: &[REC0, L0],
         owed: &[
             "event 0 recorder 0 publish rec 0",
             "event 1 lane 0 call 0 submit queue 0",
@@ -89,7 +89,7 @@ static ROWS: [Row; 13] = [
     },
     Row {
         text: ACCESS_SCOPE_NOT_LATER_STAGES,
-        order: &[L0, R0],
+        order: &[L0, REC0],
         owed: &[
             "event 0 lane 0 call 0 submit queue 0",
             "event 1 recorder 0 publish rec 0",
@@ -99,7 +99,7 @@ static ROWS: [Row; 13] = [
     },
     Row {
         text: ACCESS_SCOPE_READ_FIRST,
-        order: &[R0, L0],
+        order: &[REC0, L0],
         owed: &[
             "event 0 recorder 0 publish rec 0",
             "event 1 lane 0 call 0 submit queue 0",
@@ -108,7 +108,7 @@ static ROWS: [Row; 13] = [
     },
     Row {
         text: ACCESS_SCOPE_READ_FIRST,
-        order: &[L0, R0],
+        order: &[L0, REC0],
         owed: &[
             "event 0 lane 0 call 0 submit queue 0",
             "event 1 recorder 0 publish rec 0",
@@ -117,7 +117,7 @@ static ROWS: [Row; 13] = [
     },
     Row {
         text: BROKEN_CHAIN,
-        order: &[R0, L0],
+        order: &[REC0, L0],
         owed: &[
             "event 0 recorder 0 publish rec 0",
             "event 1 lane 0 call 0 submit queue 0",
@@ -127,7 +127,7 @@ static ROWS: [Row; 13] = [
     },
     Row {
         text: BROKEN_CHAIN,
-        order: &[L0, R0],
+        order: &[L0, REC0],
         owed: &[
             "event 0 lane 0 call 0 submit queue 0",
             "event 1 recorder 0 publish rec 0",
@@ -137,7 +137,7 @@ static ROWS: [Row; 13] = [
     },
     Row {
         text: CHAIN_OF_TWO_BARRIERS,
-        order: &[R0, L0],
+        order: &[REC0, L0],
         owed: &[
             "event 0 recorder 0 publish rec 0",
             "event 1 lane 0 call 0 submit queue 0",
@@ -146,7 +146,7 @@ static ROWS: [Row; 13] = [
     },
     Row {
         text: CHAIN_OF_TWO_BARRIERS,
-        order: &[L0, R0],
+        order: &[L0, REC0],
         owed: &[
             "event 0 lane 0 call 0 submit queue 0",
             "event 1 recorder 0 publish rec 0",
@@ -155,7 +155,7 @@ static ROWS: [Row; 13] = [
     },
     Row {
         text: RANGED_BARRIER,
-        order: &[R0, L0],
+        order: &[REC0, L0],
         owed: &[
             "event 0 recorder 0 publish rec 0",
             "event 1 lane 0 call 0 submit queue 0",
@@ -165,7 +165,7 @@ static ROWS: [Row; 13] = [
     },
     Row {
         text: RANGED_BARRIER,
-        order: &[L0, R0],
+        order: &[L0, REC0],
         owed: &[
             "event 0 lane 0 call 0 submit queue 0",
             "event 1 recorder 0 publish rec 0",
@@ -175,7 +175,7 @@ static ROWS: [Row; 13] = [
     },
     Row {
         text: RESUBMITTED_RECORDING,
-        order: &[R0, L0, L0],
+        order: &[REC0, L0, L0],
         owed: &[
             "event 0 recorder 0 publish rec 0",
             "event 1 lane 0 call 0 submit queue 0",
@@ -187,7 +187,7 @@ static ROWS: [Row; 13] = [
     // The publication releases the first submit alone, and the second runs when it comes.
     Row {
         text: RESUBMITTED_RECORDING,
-        order: &[L0, R0, L0],
+        order: &[L0, REC0, L0],
         owed: &[
             "event 0 lane 0 call 0 submit queue 0",
             "event 1 recorder 0 publish rec 0",
@@ -199,7 +199,7 @@ static ROWS: [Row; 13] = [
     // The publication releases both submits, in the order of the calls.
     Row {
         text: RESUBMITTED_RECORDING,
-        order: &[L0, L0, R0],
+        order: &[L0, L0, REC0],
         owed: &[
             "event 0 lane 0 call 0 submit queue 0",
             "event 1 lane 0 call 1 submit queue 0",

@@ -1,6 +1,6 @@
 //! Events, and dynamic rendering.
 use crate::lines::{BEGIN, BUFFER, COPY_WRITES, END, EVENT, IMAGE, QUEUE, SUBMIT};
-use crate::rows::{L0, R0, Row, differing};
+use crate::rows::{L0, REC0, Row, differing};
 use std::test::Fail;
 
 const DYNAMIC_RENDERING_DEPTH: &[&str] = &[
@@ -50,7 +50,7 @@ const WAIT_ON_UNSET_EVENT: &[&str] = &[
 static ROWS: [Row; 6] = [
     Row {
         text: DYNAMIC_RENDERING_DEPTH,
-        order: &[R0, L0],
+        order: &[REC0, L0],
         owed: &[
             "event 0 recorder 0 publish rec 0",
             "event 1 lane 0 call 0 submit queue 0",
@@ -59,7 +59,7 @@ static ROWS: [Row; 6] = [
     },
     Row {
         text: DYNAMIC_RENDERING_DEPTH,
-        order: &[L0, R0],
+        order: &[L0, REC0],
         owed: &[
             "event 0 lane 0 call 0 submit queue 0",
             "event 1 recorder 0 publish rec 0",
@@ -68,7 +68,7 @@ static ROWS: [Row; 6] = [
     },
     Row {
         text: EVENT_SPLIT_BARRIER,
-        order: &[R0, L0],
+        order: &[REC0, L0],
         owed: &[
             "event 0 recorder 0 publish rec 0",
             "event 1 lane 0 call 0 submit queue 0",
@@ -78,7 +78,7 @@ static ROWS: [Row; 6] = [
     },
     Row {
         text: EVENT_SPLIT_BARRIER,
-        order: &[L0, R0],
+        order: &[L0, REC0],
         owed: &[
             "event 0 lane 0 call 0 submit queue 0",
             "event 1 recorder 0 publish rec 0",
@@ -88,7 +88,7 @@ static ROWS: [Row; 6] = [
     },
     Row {
         text: WAIT_ON_UNSET_EVENT,
-        order: &[R0, L0],
+        order: &[REC0, L0],
         owed: &[
             "event 0 recorder 0 publish rec 0",
             "event 1 lane 0 call 0 submit queue 0",
@@ -98,7 +98,7 @@ static ROWS: [Row; 6] = [
     },
     Row {
         text: WAIT_ON_UNSET_EVENT,
-        order: &[L0, R0],
+        order: &[L0, REC0],
         owed: &[
             "event 0 lane 0 call 0 submit queue 0",
             "event 1 recorder 0 publish rec 0",

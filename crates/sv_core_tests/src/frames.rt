@@ -1,6 +1,6 @@
 //! A frame: an upload on one queue, drawing, a compute pass and a read-back on another.
 use crate::lines::{END, END_1, FENCE, IMAGE, QUEUE};
-use crate::rows::{L0, L1, R0, R1, Row, differing};
+use crate::rows::{L0, L1, REC0, REC1, Row, differing};
 use std::test::Fail;
 
 pub const FRAME: &[&str] = &[
@@ -82,7 +82,7 @@ const FRAME_WITHOUT_A_BARRIER: &[&str] = &[
 static ROWS: [Row; 4] = [
     Row {
         text: FRAME,
-        order: &[R1, R0, R1, L1, L0, L0],
+        order: &[REC1, REC0, REC1, L1, L0, L0],
         owed: &[
             "event 0 recorder 1 publish rec 0",
             "event 1 recorder 0 publish rec 1",
@@ -98,7 +98,7 @@ static ROWS: [Row; 4] = [
     // fence, in this order.
     Row {
         text: FRAME,
-        order: &[L0, L0, R0, R1, R1, L1],
+        order: &[L0, L0, REC0, REC1, REC1, L1],
         owed: &[
             "event 0 lane 0 call 0 submit queue 0",
             "event 1 lane 0 call 1 wait_fence fence 0",
@@ -111,7 +111,7 @@ static ROWS: [Row; 4] = [
     },
     Row {
         text: FRAME_WITHOUT_A_BARRIER,
-        order: &[R1, R0, R1, L1, L0, L0],
+        order: &[REC1, REC0, REC1, L1, L0, L0],
         owed: &[
             "event 0 recorder 1 publish rec 0",
             "event 1 recorder 0 publish rec 1",
@@ -126,7 +126,7 @@ static ROWS: [Row; 4] = [
     // As before: the submit of recording 2 is event 0.
     Row {
         text: FRAME_WITHOUT_A_BARRIER,
-        order: &[L0, L0, R0, R1, R1, L1],
+        order: &[L0, L0, REC0, REC1, REC1, L1],
         owed: &[
             "event 0 lane 0 call 0 submit queue 0",
             "event 1 lane 0 call 1 wait_fence fence 0",

@@ -1,6 +1,6 @@
 //! Layouts and owners.
 use crate::lines::{BEGIN, BUFFER, COPY_READS, COPY_WRITES, END, IMAGE, QUEUE, SUBMIT};
-use crate::rows::{L0, R0, Row, differing};
+use crate::rows::{L0, REC0, Row, differing};
 use std::test::Fail;
 
 const LAYOUT_NOTE: &[&str] = &[
@@ -43,7 +43,7 @@ const TRANSITION_WITHOUT_SOURCE: &[&str] = &[
 static ROWS: [Row; 6] = [
     Row {
         text: LAYOUT_NOTE,
-        order: &[R0, L0],
+        order: &[REC0, L0],
         owed: &[
             "event 0 recorder 0 publish rec 0",
             "event 1 lane 0 call 0 submit queue 0",
@@ -53,7 +53,7 @@ static ROWS: [Row; 6] = [
     },
     Row {
         text: LAYOUT_NOTE,
-        order: &[L0, R0],
+        order: &[L0, REC0],
         owed: &[
             "event 0 lane 0 call 0 submit queue 0",
             "event 1 recorder 0 publish rec 0",
@@ -63,7 +63,7 @@ static ROWS: [Row; 6] = [
     },
     Row {
         text: RELEASE_THEN_READ,
-        order: &[R0, L0],
+        order: &[REC0, L0],
         owed: &[
             "event 0 recorder 0 publish rec 0",
             "event 1 lane 0 call 0 submit queue 0",
@@ -74,7 +74,7 @@ static ROWS: [Row; 6] = [
     },
     Row {
         text: RELEASE_THEN_READ,
-        order: &[L0, R0],
+        order: &[L0, REC0],
         owed: &[
             "event 0 lane 0 call 0 submit queue 0",
             "event 1 recorder 0 publish rec 0",
@@ -85,7 +85,7 @@ static ROWS: [Row; 6] = [
     },
     Row {
         text: TRANSITION_WITHOUT_SOURCE,
-        order: &[R0, L0],
+        order: &[REC0, L0],
         owed: &[
             "event 0 recorder 0 publish rec 0",
             "event 1 lane 0 call 0 submit queue 0",
@@ -95,7 +95,7 @@ static ROWS: [Row; 6] = [
     },
     Row {
         text: TRANSITION_WITHOUT_SOURCE,
-        order: &[L0, R0],
+        order: &[L0, REC0],
         owed: &[
             "event 0 lane 0 call 0 submit queue 0",
             "event 1 recorder 0 publish rec 0",

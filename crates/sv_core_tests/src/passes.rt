@@ -1,6 +1,6 @@
 //! Render passes.
 use crate::lines::{BEGIN, BUFFER, COPY_WRITES, END, IMAGE, QUEUE, SUBMIT};
-use crate::rows::{L0, R0, Row, differing};
+use crate::rows::{L0, REC0, Row, differing};
 use std::test::Fail;
 
 const IMPLICIT_EXIT_REACHES_NOTHING: &[&str] = &[
@@ -78,7 +78,7 @@ const SUBPASS_DEPENDENCY_THERE: &[&str] = &[
 static ROWS: [Row; 10] = [
     Row {
         text: IMPLICIT_EXIT_REACHES_NOTHING,
-        order: &[R0, L0],
+        order: &[REC0, L0],
         owed: &[
             "event 0 recorder 0 publish rec 0",
             "event 1 lane 0 call 0 submit queue 0",
@@ -88,7 +88,7 @@ static ROWS: [Row; 10] = [
     },
     Row {
         text: IMPLICIT_EXIT_REACHES_NOTHING,
-        order: &[L0, R0],
+        order: &[L0, REC0],
         owed: &[
             "event 0 lane 0 call 0 submit queue 0",
             "event 1 recorder 0 publish rec 0",
@@ -98,7 +98,7 @@ static ROWS: [Row; 10] = [
     },
     Row {
         text: SELF_DEPENDENCY_BARRIER,
-        order: &[R0, L0],
+        order: &[REC0, L0],
         owed: &[
             "event 0 recorder 0 publish rec 0",
             "event 1 lane 0 call 0 submit queue 0",
@@ -107,7 +107,7 @@ static ROWS: [Row; 10] = [
     },
     Row {
         text: SELF_DEPENDENCY_BARRIER,
-        order: &[L0, R0],
+        order: &[L0, REC0],
         owed: &[
             "event 0 lane 0 call 0 submit queue 0",
             "event 1 recorder 0 publish rec 0",
@@ -116,7 +116,7 @@ static ROWS: [Row; 10] = [
     },
     Row {
         text: SELF_DEPENDENCY_NO_BARRIER,
-        order: &[R0, L0],
+        order: &[REC0, L0],
         owed: &[
             "event 0 recorder 0 publish rec 0",
             "event 1 lane 0 call 0 submit queue 0",
@@ -126,7 +126,7 @@ static ROWS: [Row; 10] = [
     },
     Row {
         text: SELF_DEPENDENCY_NO_BARRIER,
-        order: &[L0, R0],
+        order: &[L0, REC0],
         owed: &[
             "event 0 lane 0 call 0 submit queue 0",
             "event 1 recorder 0 publish rec 0",
@@ -136,7 +136,7 @@ static ROWS: [Row; 10] = [
     },
     Row {
         text: SUBPASS_DEPENDENCY_MISSING,
-        order: &[R0, L0],
+        order: &[REC0, L0],
         owed: &[
             "event 0 recorder 0 publish rec 0",
             "event 1 lane 0 call 0 submit queue 0",
@@ -146,7 +146,7 @@ static ROWS: [Row; 10] = [
     },
     Row {
         text: SUBPASS_DEPENDENCY_MISSING,
-        order: &[L0, R0],
+        order: &[L0, REC0],
         owed: &[
             "event 0 lane 0 call 0 submit queue 0",
             "event 1 recorder 0 publish rec 0",
@@ -156,7 +156,7 @@ static ROWS: [Row; 10] = [
     },
     Row {
         text: SUBPASS_DEPENDENCY_THERE,
-        order: &[R0, L0],
+        order: &[REC0, L0],
         owed: &[
             "event 0 recorder 0 publish rec 0",
             "event 1 lane 0 call 0 submit queue 0",
@@ -165,7 +165,7 @@ static ROWS: [Row; 10] = [
     },
     Row {
         text: SUBPASS_DEPENDENCY_THERE,
-        order: &[L0, R0],
+        order: &[L0, REC0],
         owed: &[
             "event 0 lane 0 call 0 submit queue 0",
             "event 1 recorder 0 publish rec 0",

@@ -3,7 +3,7 @@ use crate::lines::{
     BEGIN, BEGIN_1, BUFFER, COPY_READS_IN_1, COPY_WRITES, END, END_1, EVENT, FENCE, QUEUE, QUEUE_1,
     SUBMIT,
 };
-use crate::rows::{L0, L1, R0, R1, Row, differing};
+use crate::rows::{L0, L1, REC0, REC1, Row, differing};
 use std::test::Fail;
 
 const ACQUIRE_MISSING: &[&str] = &[
@@ -115,7 +115,7 @@ const TWO_QUEUES: &[&str] = &[
 static ROWS: [Row; 17] = [
     Row {
         text: ACQUIRE_MISSING,
-        order: &[R0, R1, L0, L1],
+        order: &[REC0, REC1, L0, L1],
         owed: &[
             "event 0 recorder 0 publish rec 0",
             "event 1 recorder 1 publish rec 1",
@@ -129,7 +129,7 @@ static ROWS: [Row; 17] = [
     // that publication releases both, the release first.
     Row {
         text: ACQUIRE_MISSING,
-        order: &[L1, R1, L0, R0],
+        order: &[L1, REC1, L0, REC0],
         owed: &[
             "event 0 lane 1 call 0 submit queue 1",
             "event 1 recorder 1 publish rec 1",
@@ -141,7 +141,7 @@ static ROWS: [Row; 17] = [
     },
     Row {
         text: EVENT_OF_ANOTHER_QUEUE,
-        order: &[R0, R1, L0, L1],
+        order: &[REC0, REC1, L0, L1],
         owed: &[
             "event 0 recorder 0 publish rec 0",
             "event 1 recorder 1 publish rec 1",
@@ -154,7 +154,7 @@ static ROWS: [Row; 17] = [
     // The wait is processed before the set.
     Row {
         text: EVENT_OF_ANOTHER_QUEUE,
-        order: &[R0, R1, L1, L0],
+        order: &[REC0, REC1, L1, L0],
         owed: &[
             "event 0 recorder 0 publish rec 0",
             "event 1 recorder 1 publish rec 1",
@@ -167,7 +167,7 @@ static ROWS: [Row; 17] = [
     // The first publication releases lane 1's submit, since lane 0's is still held.
     Row {
         text: EVENT_OF_ANOTHER_QUEUE,
-        order: &[L0, L1, R1, R0],
+        order: &[L0, L1, REC1, REC0],
         owed: &[
             "event 0 lane 0 call 0 submit queue 0",
             "event 1 lane 1 call 0 submit queue 1",
@@ -198,7 +198,7 @@ static ROWS: [Row; 17] = [
     },
     Row {
         text: SEMAPHORE_FULL_SIGNAL,
-        order: &[R0, R1, L0, L1],
+        order: &[REC0, REC1, L0, L1],
         owed: &[
             "event 0 recorder 0 publish rec 0",
             "event 1 recorder 1 publish rec 1",
@@ -211,7 +211,7 @@ static ROWS: [Row; 17] = [
     // signal.
     Row {
         text: SEMAPHORE_FULL_SIGNAL,
-        order: &[R0, R1, L1, L0],
+        order: &[REC0, REC1, L1, L0],
         owed: &[
             "event 0 recorder 0 publish rec 0",
             "event 1 recorder 1 publish rec 1",
@@ -222,7 +222,7 @@ static ROWS: [Row; 17] = [
     },
     Row {
         text: SEMAPHORE_NARROW_SIGNAL,
-        order: &[R0, R1, L0, L1],
+        order: &[REC0, REC1, L0, L1],
         owed: &[
             "event 0 recorder 0 publish rec 0",
             "event 1 recorder 1 publish rec 1",
@@ -236,7 +236,7 @@ static ROWS: [Row; 17] = [
     // 0's and then it.
     Row {
         text: SEMAPHORE_NARROW_SIGNAL,
-        order: &[L1, L0, R1, R0],
+        order: &[L1, L0, REC1, REC0],
         owed: &[
             "event 0 lane 1 call 0 submit queue 1",
             "event 1 lane 0 call 0 submit queue 0",
@@ -257,7 +257,7 @@ static ROWS: [Row; 17] = [
     },
     Row {
         text: TIMELINE_WAIT_FIRST,
-        order: &[R0, R1, L1, L0],
+        order: &[REC0, REC1, L1, L0],
         owed: &[
             "event 0 recorder 0 publish rec 0",
             "event 1 recorder 1 publish rec 1",
@@ -270,7 +270,7 @@ static ROWS: [Row; 17] = [
     // The signal is there when the wait comes. Its stages do not hold the copy, as before.
     Row {
         text: TIMELINE_WAIT_FIRST,
-        order: &[R0, R1, L0, L1],
+        order: &[REC0, REC1, L0, L1],
         owed: &[
             "event 0 recorder 0 publish rec 0",
             "event 1 recorder 1 publish rec 1",
@@ -282,7 +282,7 @@ static ROWS: [Row; 17] = [
     },
     Row {
         text: TWO_QUEUES,
-        order: &[R0, R1, L0, L1],
+        order: &[REC0, REC1, L0, L1],
         owed: &[
             "event 0 recorder 0 publish rec 0",
             "event 1 recorder 1 publish rec 1",
@@ -295,7 +295,7 @@ static ROWS: [Row; 17] = [
     // The write of recording 1 is processed first.
     Row {
         text: TWO_QUEUES,
-        order: &[R0, R1, L1, L0],
+        order: &[REC0, REC1, L1, L0],
         owed: &[
             "event 0 recorder 0 publish rec 0",
             "event 1 recorder 1 publish rec 1",
@@ -308,7 +308,7 @@ static ROWS: [Row; 17] = [
     // Lane 0's submit came first and is held longest: the later write is that of the earlier event.
     Row {
         text: TWO_QUEUES,
-        order: &[L0, L1, R1, R0],
+        order: &[L0, L1, REC1, REC0],
         owed: &[
             "event 0 lane 0 call 0 submit queue 0",
             "event 1 lane 1 call 0 submit queue 1",

@@ -1,6 +1,6 @@
 //! As many accesses as one work may have.
 use crate::lines::{BEGIN, BUFFER, END, QUEUE, SUBMIT};
-use crate::rows::{L0, R0, agrees, joined};
+use crate::rows::{L0, REC0, agrees, joined};
 use std::alloc::{AllocError, Global};
 use std::sync::Wait;
 use std::test::Fail;
@@ -24,7 +24,7 @@ fn sixty_four_accesses(alloc: Global) -> Result<Vec<u8>, AllocError> {
 
 static OF_READS: [(&[u32], &[&str]); 2] = [
     (
-        &[R0, L0],
+        &[REC0, L0],
         &[
             "event 0 recorder 0 publish rec 0",
             "event 1 lane 0 call 0 submit queue 0",
@@ -32,7 +32,7 @@ static OF_READS: [(&[u32], &[&str]); 2] = [
         ],
     ),
     (
-        &[L0, R0],
+        &[L0, REC0],
         &[
             "event 0 lane 0 call 0 submit queue 0",
             "event 1 recorder 0 publish rec 0",

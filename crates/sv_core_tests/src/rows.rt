@@ -17,9 +17,9 @@ pub const L0: u32 = 0;
 
 pub const L1: u32 = 1;
 
-pub const R0: u32 = 16;
+pub const REC0: u32 = 16;
 
-pub const R1: u32 = 17;
+pub const REC1: u32 = 17;
 
 /// The lines of a text, an order of its actors, and the lines that are owed.
 #[derive(Clone, Copy)]

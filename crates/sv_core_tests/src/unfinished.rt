@@ -3,7 +3,7 @@ use crate::breadth::CHAIN_OF_TWO_BARRIERS;
 use crate::driver::validate;
 use crate::frames::FRAME;
 use crate::queues::SEMAPHORE_NARROW_SIGNAL;
-use crate::rows::{L0, L1, R0, R1, Row, differing, joined};
+use crate::rows::{L0, L1, REC0, REC1, Row, differing, joined};
 use std::alloc::{AllocError, Global};
 use std::sync::Wait;
 use std::test::Fail;
@@ -21,7 +21,7 @@ static ROWS: [Row; 4] = [
     // the submit needs recordings 1 and 2
     Row {
         text: FRAME,
-        order: &[L0, L0, R0],
+        order: &[L0, L0, REC0],
         owed: &[
             "event 0 lane 0 call 0 submit queue 0",
             "event 1 lane 0 call 1 wait_fence fence 0",
@@ -34,7 +34,7 @@ static ROWS: [Row; 4] = [
     // the batch needs lane 1's signal, and stands before the fence signal
     Row {
         text: FRAME,
-        order: &[L0, L0, R1, R0, R1],
+        order: &[L0, L0, REC1, REC0, REC1],
         owed: &[
             "event 0 lane 0 call 0 submit queue 0",
             "event 1 lane 0 call 1 wait_fence fence 0",
@@ -49,7 +49,7 @@ static ROWS: [Row; 4] = [
     },
     Row {
         text: SEMAPHORE_NARROW_SIGNAL,
-        order: &[R1, L1, L0],
+        order: &[REC1, L1, L0],
         owed: &[
             "event 0 recorder 1 publish rec 1",
             "event 1 lane 1 call 0 submit queue 1",
@@ -84,7 +84,7 @@ static KEPT: [Kept; 2] = [
     // the read finds two barriers there that came after the write.
     Kept {
         text: CHAIN_OF_TWO_BARRIERS,
-        order: &[R0, L0],
+        order: &[REC0, L0],
         history: &[Mark::Publish(0), Mark::Call { lane: 0, index: 0 }],
         replies: &[(0, 0), (0, 0)],
         held: &[],
@@ -98,7 +98,7 @@ static KEPT: [Kept; 2] = [
     // No access was made, so the buffer is whole.
     Kept {
         text: SEMAPHORE_NARROW_SIGNAL,
-        order: &[R1, L1],
+        order: &[REC1, L1],
         history: &[Mark::Publish(1), Mark::Call { lane: 1, index: 0 }],
         replies: &[(0, 0), (0, 0)],
         held: &[Held::Batch {
