@@ -1,6 +1,7 @@
 -- The events of the text order come one after another: each is the next of its actor.
-use Rattle.std.proofs.Common.{◌≡◌, ℕ, ◌+◌, ◌<◌, List, [], ◌∷◌, ◌++◌, Option, Some, Contains, IsTrue, is_some, length, get_or, map, take, drop, sym, ◌∙◌, ap, subst}
+use Rattle.std.proofs.Common.{◌≡◌, ℕ, ◌+◌, ◌<◌, true, false, List, [], ◌∷◌, ◌++◌, Option, Some, Result, Ok, Err, OnOk, Contains, IsTrue, is_some, length, get_or, map, take, drop, sym, ◌∙◌, ap, subst}
 use Rattle.std.specs.List.{filter_map}
+use Rattle.std.specs.Result.{is_err}
 use Rattle.std.proofs.lemmas.List.{take-append-drop, take_more}
 use Rattle.std.proofs.lemmas.List.Elements.{All-take, filter_map-append}
 use Rattle.std.proofs.Math.Seq.{take-append_seam}
@@ -29,13 +30,28 @@ first_events t n marks whole = record {
   recorders = λ recorder. said_first (published_by t recorder) n marks _ (whole.recorders recorder);
 }
 
+-- the events so far and the next one
+so_far : (i : ℕ) (items marks history : List Mark) (d : Mark) (e : Event) → items ≡ marks → i < length items → history ≡ take i marks
+    → mark_of e ≡ get_or items i d → take (i + 1) marks ≡ history ++ mark_of e ∷ []
+so_far i items marks history d e all lt before own =
+    (λ j. take (i + 1) (sym all j)) ∙ take_more items i d lt ∙ (λ j. sym (before ∙ ap (take i) (sym all)) j ++ sym own j ∷ [])
+
 -- is the next behind those before it
 pub next_event : (t u : Trace) (i : ℕ) (items marks history : List Mark) (d : Mark) (e : Event) → u ≡ t → items ≡ marks → IsWhole t marks → i < length items
     → history ≡ take i marks → mark_of e ≡ get_or items i d → IsNextEvent u history e
 next_event t u i items marks history d e is all whole lt before own =
     subst (λ (x : Trace). IsHistory x (history ++ mark_of e ∷ [])) (sym is)
-    (subst (IsHistory t) ((λ j. take (i + 1) (sym all j)) ∙ take_more items i d lt ∙ (λ j. sym (before ∙ ap (take i) (sym all)) j ++ sym own j ∷ []))
-    (first_events t (i + 1) marks whole))
+    (subst (IsHistory t) (so_far i items marks history d e all lt before own) (first_events t (i + 1) marks whole))
+
+-- what a call that went well says
+pub went_well : {A E : Type 0} (r : Result A E) (Says : Type 0) → is_err r ≡ false → OnOk r Says → Says
+went_well (Ok a) Says well said = said
+went_well (Err e) Says well said = absurd (let f : true ≡ false = well in cc)
+
+-- with the next event behind it, the history has one event more
+pub one_more_event : (i : ℕ) (items marks history new : List Mark) (d : Mark) (e : Event) → items ≡ marks → i < length items → history ≡ take i marks
+    → mark_of e ≡ get_or items i d → new ≡ history ++ mark_of e ∷ [] → new ≡ take (i + 1) marks
+one_more_event i items marks history new d e all lt before own more = more ∙ sym (so_far i items marks history d e all lt before own)
 
 -- a recording of the trace is found by its number
 pub is_declared : (t : Trace) (k : ℕ) → Contains (map (λ (r : Recording). r.rec) t.recordings) k → IsTrue (is_some (recording_of t k))

@@ -1,3 +1,4 @@
--- Actors, and what their device keeps.
+-- Actors, what their device keeps, and its index.
 pub mod Actors
 pub mod Devices
+pub mod Indexed

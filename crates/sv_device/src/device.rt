@@ -5,6 +5,7 @@ ghost use Rattle.sv_record.specs.Indexed.{IsIndexOf};
 ghost use Rattle.sv_share.specs.Values.{share_is, book_is};
 ghost use Rattle.sv_device.specs.Actors.{actor_is, actors_of, mark_at, script_of};
 ghost use Rattle.sv_device.specs.Devices.{IsReceipt, IsStopIn};
+ghost use Rattle.sv_device.specs.Indexed.{IsIndexOf-prop};
 ghost use Rattle.sv_device.specs.declared.who.Who.{Who};
 
 use crate::actor::Actor;
@@ -29,7 +30,7 @@ pub struct Device<C: Case> {
     index: Index,
     ghost named: { board ≡ C.board },
     ghost traced: { trace ≡ C.trace },
-    ghost indexed: { IsIndexOf C.trace index },
+    ghost indexed: { IsIndexOf C.trace index } by { IsIndexOf-prop C.trace index },
 }
 
 impl<C: Case> Device<C> {

@@ -16,6 +16,3 @@ pub use kept::Kept;
 pub use runs::replay;
 pub use scripts::actors;
 pub use who::Who;
-
-#[cfg(test)]
-mod tests;

@@ -7,5 +7,5 @@ returns-in-Ok c = IfOk-weaker c.trace_text.result _ _ (λ it is. (Ok c.in-Ok.tra
 
 pub returns-in_ok-line-in-Err-Refused : goal.returns-in_ok-line-in-Err-Refused
 returns-in_ok-line-in-Err-Refused c =
-    let outcome = rw c.in-Err-Refused.field-0-is at c.in-Err-Refused.ensures in
+    let outcome = rw c.in-Err-Refused.field-0-is at c.in-Err-Refused.ensures.tells in
     (Err c.in-Err-Refused.refusal, outcome, (refl, c.in_ok-line-in-Err-Refused.ensures))
