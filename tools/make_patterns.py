@@ -131,6 +131,22 @@ def compute_write_then_uniform_buffer(right):
 
 
 @pattern
+def compute_write_then_indirect_and_uniform(right):
+    trace, queue = one_queue()
+    data = trace.buffer(256)
+    rec = trace.begin(recorder=0, family=0)
+    rec.work(on_bytes(data, "compute_shader", "shader_storage_write", 0, 256))
+    dst = ("draw_indirect", "indirect_command_read")
+    if right:
+        dst = ("draw_indirect|fragment_shader", "indirect_command_read|uniform_read")
+    rec.barrier(barrier("compute_shader", "shader_storage_write", *dst))
+    draw(rec, on_bytes(data, "draw_indirect", "indirect_command_read", 0, 16),
+         on_bytes(data, "fragment_shader", "uniform_read", 0, 256))
+    submit_one(trace, queue, rec)
+    return trace
+
+
+@pattern
 def particles_updated_then_drawn(right):
     trace, queue = one_queue()
     particles = trace.buffer(512)
@@ -221,21 +237,23 @@ def full_barrier(right):
 @pattern
 def frames_in_flight(right):
     trace, queue = one_queue()
-    uniforms, staging = trace.buffer(256), trace.buffer(256)
-    done = trace.fence()
-    first = trace.begin(recorder=0, family=0)
-    draw(first, on_bytes(uniforms, "vertex_shader", "uniform_read", 0, 256))
-    first.end()
-    second = trace.begin(recorder=0, family=0)
-    second.work(on_bytes(staging, "copy", "transfer_read", 0, 256),
-                on_bytes(uniforms, "copy", "transfer_write", 0, 256))
-    second.barrier(barrier("copy", "transfer_write", "vertex_shader", "uniform_read"))
-    draw(second, on_bytes(uniforms, "vertex_shader", "uniform_read", 0, 256))
-    second.end()
-    trace.submit(queue, batch(recs=[first]), fence=done)
+    staging, uniforms = trace.buffer(768), [trace.buffer(256), trace.buffer(256)]
+    done = [trace.fence(), trace.fence()]
+    recs = []
+    for frame in range(3):
+        rec = trace.begin(recorder=0, family=0)
+        own = uniforms[frame % 2]
+        rec.work(on_bytes(staging, "copy", "transfer_read", 256 * frame, 256 * (frame + 1)),
+                 on_bytes(own, "copy", "transfer_write", 0, 256))
+        rec.barrier(barrier("copy", "transfer_write", "vertex_shader", "uniform_read"))
+        draw(rec, on_bytes(own, "vertex_shader", "uniform_read", 0, 256))
+        rec.end()
+        recs.append(rec)
+    trace.submit(queue, batch(recs=[recs[0]]), fence=done[0])
+    trace.submit(queue, batch(recs=[recs[1]]), fence=done[1])
     if right:
-        trace.wait_fence(lane=0, fence=done)
-    trace.submit(queue, batch(recs=[second]))
+        trace.wait_fence(lane=0, fence=done[0])
+    trace.submit(queue, batch(recs=[recs[2]]))
     return trace
 
 
@@ -311,6 +329,24 @@ def color_attachment_then_sampled(right):
     src = ("color_attachment_output", COLOR_WRITE) if right else ("top_of_pipe", "")
     rec.barrier(image_barrier(*src, "fragment_shader", "shader_sampled_read", image, COLOR, SAMPLED))
     draw(rec, on_cells(image, "fragment_shader", "shader_sampled_read", SAMPLED))
+    submit_one(trace, queue, rec)
+    return trace
+
+
+@pattern
+def color_attachment_then_compute(right):
+    trace, queue = one_queue()
+    scene, result = trace.image(), trace.image()
+    rec = trace.begin(recorder=0, family=0)
+    rec.barrier(
+        image_barrier("", "", "color_attachment_output", COLOR_ACCESS, scene, "undefined", COLOR),
+        image_barrier("", "", "compute_shader", "shader_storage_write", result, "undefined", "general"))
+    draw_color(rec, scene)
+    rec.barrier(image_barrier("color_attachment_output", COLOR_WRITE,
+                              "compute_shader" if right else "fragment_shader", "shader_sampled_read",
+                              scene, COLOR, SAMPLED))
+    rec.work(on_cells(scene, "compute_shader", "shader_sampled_read", SAMPLED),
+             on_cells(result, "compute_shader", "shader_storage_write", "general"))
     submit_one(trace, queue, rec)
     return trace
 

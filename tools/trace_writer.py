@@ -19,6 +19,7 @@ that a recording is open) svval checks itself: docs/TRACE.md, "Refusals".
 Run as a program with files as arguments, it checks the lines of these traces in the same way.
 """
 import json
+import math
 import pathlib
 import sys
 
@@ -103,7 +104,7 @@ class Schema:
             yield place, f"{shown(value)} is none of {', '.join(map(str, rule))}"
 
     def check_const(self, value, rule, form, place):
-        if value != rule or isinstance(value, bool) != isinstance(rule, bool):
+        if value != rule or type(value) is not type(rule):  # 1.0 and True equal 1 in Python
             yield place, f"{shown(value)} is not {shown(rule)}"
 
     def check_minimum(self, value, rule, form, place):
@@ -245,7 +246,7 @@ def batch(recs=(), waits=(), signals=()):
 
 
 class Recording:
-    """A command buffer that is being recorded."""
+    """A command buffer that is being recorded. Each call is a line of it."""
 
     def __init__(self, trace, number):
         self.trace, self.number = trace, number
@@ -258,33 +259,43 @@ class Recording:
         self.add("work", accesses=list(accesses))
 
     def barrier(self, *elements):
+        """vkCmdPipelineBarrier2, with its memory, buffer and image barriers."""
         self.add("barrier", deps=list(elements))
 
     def set_event(self, event, *elements):
+        """vkCmdSetEvent2, with the barriers of its VkDependencyInfo."""
         self.add("set_event", event=event, deps=list(elements))
 
     def wait_event(self, event):
+        """vkCmdWaitEvents2 for one event; the barriers are those of the set."""
         self.add("wait_event", event=event)
 
     def reset_event(self, event):
+        """vkCmdResetEvent2."""
         self.add("reset_event", event=event)
 
     def begin_rendering(self, *attachments):
+        """vkCmdBeginRendering."""
         self.add("begin_rendering", attachments=list(attachments))
 
     def end_rendering(self):
+        """vkCmdEndRendering."""
         self.add("end_rendering")
 
     def begin_pass(self, render_pass, *views):
+        """vkCmdBeginRenderPass2, with the views of the framebuffer."""
         self.add("begin_pass", **{"pass": render_pass}, views=list(views))
 
     def next_subpass(self):
+        """vkCmdNextSubpass2."""
         self.add("next_subpass")
 
     def end_pass(self):
+        """vkCmdEndRenderPass2."""
         self.add("end_pass")
 
     def end(self):
+        """vkEndCommandBuffer."""
         self.add("end")
 
 
@@ -337,6 +348,7 @@ class Trace:
                             subpasses=list(subpasses), deps=list(deps))
 
     def begin(self, recorder, family, number=None):
+        """vkBeginCommandBuffer; the number is that of the recording, which is new for each."""
         return Recording(self, self.declare("begin", "rec", number, recorder=recorder, family=family))
 
     def submit(self, queue, *batches, fence=None):
@@ -345,15 +357,19 @@ class Trace:
         self.add(given(op="submit", lane=lane, queue=queue, batches=list(batches), fence=fence))
 
     def wait_fence(self, lane, fence):
+        """vkWaitForFences for one fence, without a timeout."""
         self.add({"op": "wait_fence", "lane": lane, "fence": fence})
 
     def reset_fence(self, lane, fence):
+        """vkResetFences for one fence."""
         self.add({"op": "reset_fence", "lane": lane, "fence": fence})
 
     def wait_queue(self, queue):
+        """vkQueueWaitIdle, by the lane that the queue was declared with."""
         self.add({"op": "wait_queue", "lane": self.lanes.get(queue, 0), "queue": queue})
 
     def wait_device(self, lane):
+        """vkDeviceWaitIdle."""
         self.add({"op": "wait_device", "lane": lane})
 
     def text(self):
@@ -363,8 +379,23 @@ class Trace:
         pathlib.Path(path).write_text(self.text())
 
 
-def no_constant(text):
+def no_number(text):
     raise ValueError(f"{text} is no number")
+
+
+def digits(text):
+    """A number that json takes for whole; -0 is no decimal digits alone, so it is not."""
+    return float(text) if text == "-0" else int(text)
+
+
+def fraction(text):
+    """A number with a point or an exponent."""
+    return float(text) if math.isfinite(float(text)) else no_number(text)
+
+
+def read(line):
+    """The value of a line's bytes, with numbers kept apart as svval keeps them."""
+    return json.loads(line.decode("utf-8"), parse_constant=no_number, parse_int=digits, parse_float=fraction)
 
 
 def check_bytes(text, schema=None):
@@ -374,7 +405,7 @@ def check_bytes(text, schema=None):
         if line.strip(b" \t\r") == b"":
             continue
         try:
-            members = json.loads(line.decode("utf-8"), parse_constant=no_constant)
+            members = read(line)
         except (ValueError, RecursionError) as cause:
             raise BadLine(number, "", f"it is not JSON: {cause}") from None
         check_line(number, members, schema)
