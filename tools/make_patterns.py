@@ -577,6 +577,30 @@ def upload_then_queue_idle(right):
 
 
 @pattern
+def swapchain_image_drawn_again(right):
+    trace, queue = one_queue()
+    presentation = trace.queue(family=0, lane=0)
+    image = trace.image()
+    acquired, drawn = trace.semaphore("binary"), trace.semaphore("binary")
+    frames = []
+    for old in ("undefined", "present_src"):
+        rec = trace.begin(recorder=0, family=0)
+        src = "color_attachment_output" if right else "top_of_pipe"
+        rec.barrier(image_barrier(src, "", "color_attachment_output", COLOR_WRITE, image, old, COLOR))
+        draw_color(rec, image)
+        rec.barrier(image_barrier("color_attachment_output", COLOR_WRITE, "", "", image, COLOR,
+                                  "present_src"))
+        rec.end()
+        frames.append(rec)
+    for rec in frames:
+        trace.submit(presentation, batch(signals=[semaphore_use(acquired)]))
+        trace.submit(queue, batch(recs=[rec], waits=[semaphore_use(acquired, "color_attachment_output")],
+                                  signals=[semaphore_use(drawn)]))
+        trace.submit(presentation, batch(waits=[semaphore_use(drawn)]))
+    return trace
+
+
+@pattern
 def timeline_wait_before_its_signal(right):
     signal = "compute_shader" if right else "copy"
     return produce_and_draw("compute_shader", "shader_storage_write", "fragment_shader",

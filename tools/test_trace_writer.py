@@ -273,6 +273,40 @@ class Gallery(unittest.TestCase):
                     self.assertTrue(f'"{word}"' in json.dumps(lines))
 
 
+class Shown(unittest.TestCase):
+    """What the documents show of the examples and of the writer."""
+
+    def test_an_output_is_that_of_its_example(self):
+        for page, example in (("README.md", "frame/frame-without-a-barrier"),
+                              ("docs/GUIDE.md", "patterns/vertex-buffer-upload-broken")):
+            with self.subTest(page):
+                text = (ROOT / page).read_text()
+                self.assertIn(f"examples/{example}.trace", text)
+                shown = re.search(r"^```\n(event .*?)```", text, re.M | re.S).group(1)
+                self.assertEqual(shown, (ROOT / "examples" / f"{example}.out").read_text())
+
+    def test_the_code_of_the_guide_runs(self):
+        code = re.search(r"^```python\n(.*?)```", (ROOT / "docs/GUIDE.md").read_text(), re.M | re.S).group(1)
+        with tempfile.TemporaryDirectory() as name:
+            path = {"PYTHONPATH": str(ROOT / "tools")}
+            subprocess.run([sys.executable, "-c", code], cwd=name, env=os.environ | path, check=True)
+            written = (pathlib.Path(name) / "upload.trace").read_bytes()
+        check_bytes(written)
+        self.assertEqual(written.count(b'"op":"work"'), 2)
+
+    def test_links_lead_somewhere(self):
+        pages = [ROOT / "README.md", *ROOT.glob("docs/*.md"), *ROOT.glob("examples/**/README.md")]
+        for page in pages:
+            for link in re.findall(r"\]\(((?!http)[^)]+)\)", page.read_text()):
+                with self.subTest(page.relative_to(ROOT), link=link):
+                    file, _, place = link.partition("#")
+                    target = page.parent / file if file else page
+                    self.assertTrue(target.is_file())
+                    heads = re.findall(r"^#+ (.*)$", target.read_text(), re.M) if place else []
+                    places = {re.sub(r"[^\w -]", "", head.lower()).replace(" ", "-") for head in heads}
+                    self.assertIn(place, places | {""})
+
+
 class CheckExamples(unittest.TestCase):
     TOTAL = "total events 0 reports 0 notes 0 held 0\n"
     HELD = "held lane 0 call 0\ntotal events 1 reports 0 notes 0 held 1\n"
