@@ -1,8 +1,9 @@
 //! The map, and its pieces one by one.
-ghost use Rattle.std.specs.Prelude.{◌≡◌, [], ◌∷◌, ◌<◌, IfOk, length, set, slice_index_or};
+ghost use Rattle.std.specs.Prelude.{◌≡◌, [], ◌∷◌, ◌<◌, ◌^◌, IfOk, length, set, slice_index_or};
 ghost use Rattle.sv_rangemap.specs.declared.part.Part.{Part};
 ghost use Rattle.sv_rangemap.specs.Lines.{Cover, IsAt, IsReplaced, IsValueAt};
 
+use crate::chunks::Chunks;
 use crate::{Part, Piece};
 use std::alloc::{AllocError, Global};
 use std::mem::replace;
@@ -13,8 +14,9 @@ use sv_range::Span;
 #[derive(Drop)]
 pub struct RangeMap<V> {
     pub(crate) size: u64,
-    pub(crate) parts: Vec<Part<V>>,
+    pub(crate) parts: Chunks<Part<V>>,
     pub ghost cover: { Cover size parts.items },
+    pub ghost fits: { length parts.items < 2 ^ 64 },
 }
 
 impl<V: Piece> RangeMap<V> {
@@ -24,12 +26,11 @@ impl<V: Piece> RangeMap<V> {
         ensures size { IfOk result (λ map. map.size ≡ size) }
         ensures whole { IfOk result (λ map. map.parts.items ≡ record { span = record { start = 0; end = size }; value = value } ∷ []) }
     {
-        let mut parts = Vec::with_capacity(alloc, 1)?;
         let span = Span {
             start: 0,
             end: size,
         };
-        parts.push(Part { span, value })?;
+        let parts = Chunks::one(alloc, Part { span, value })?;
         Ok(RangeMap { size, parts })
     }
 
@@ -52,7 +53,7 @@ impl<V: Piece> RangeMap<V> {
         requires { index < length self.now.parts.items }
         ensures { (d : Part V) → slice_index_or self.now.parts.items index d ≡ record { span = result.0; value = result.1.now } }
     {
-        let part = &self.parts[index];
+        let part = self.parts.get(index);
         (part.span, &part.value)
     }
 
@@ -65,7 +66,7 @@ impl<V: Piece> RangeMap<V> {
         let mut high = self.parts.len();
         while high - low > 1 {
             let middle = low + (high - low) / 2;
-            if self.parts[middle].span.start <= cell {
+            if self.parts.get(middle).span.start <= cell {
                 low = middle;
             } else {
                 high = middle;
@@ -80,7 +81,7 @@ impl<V: Piece> RangeMap<V> {
         ensures { IsValueAt self.now.parts.items cell result.now }
     {
         let index = self.index_of(cell);
-        &self.parts[index].value
+        &self.parts.get(index).value
     }
 
     /// Gives the piece at that place another value, and hands the one back that it had.
@@ -91,6 +92,6 @@ impl<V: Piece> RangeMap<V> {
         ensures replaced { IsReplaced index value self.old.parts.items self.new.parts.items }
         ensures put { (d : Part V) → self.new.parts.items ≡ set self.old.parts.items index (record { span = (slice_index_or self.old.parts.items index d).span; value = value }) }
     {
-        replace(&mut self.parts[index].value, value)
+        replace(&mut self.parts.get_mut(index).value, value)
     }
 }
