@@ -2,7 +2,8 @@
 """Writes the traces of examples/patterns and examples/frame.
 
 Each pattern is a function that makes the trace of its right form or, where `right` is false, of its broken
-form; the frame is in frame_traces.py. What svval owes for a trace, the .out file beside it, is written by hand and not by this program.
+form; the frame is in frame_traces.py. What svval owes for a trace, the .out file beside it, is written by
+hand and not by this program.
 
     make_patterns.py           writes the files
     make_patterns.py --check   says which files differ from what would be written; status 1 where one does
