@@ -1,8 +1,9 @@
 #!/usr/bin/env python3
-"""Runs `PROGRAM check` on the examples of OUTPUT.md and TRACE.md, and compares what it prints and its status.
+"""Runs `PROGRAM check` on the examples of these pages, and compares what it prints and its status.
 
-An example is a fenced block of a trace with the block of its whole output behind it; blocks that name a
-language are none. In TRACE.md the bad lines of a table stand each behind the lines of the block before it.
+The pages are OUTPUT.md, TRACE.md and GUIDE.md. An example is a fenced block of a trace with the block of its
+whole output behind it; blocks that name a language are none. In TRACE.md the bad lines of a table stand each
+behind the lines of the block before it.
 Ends with status 1 where the program differs, after the two outputs of each example that does.
 `--write FOLDER` in the place of PROGRAM writes NAME.trace and NAME.out for each example there.
 """
@@ -51,7 +52,7 @@ def status(out):
 def main():
     if len(sys.argv) < 2:
         sys.exit(__doc__)
-    examples = [*pairs("OUTPUT.md"), *pairs("TRACE.md"), *bad_lines()]
+    examples = [*pairs("OUTPUT.md"), *pairs("TRACE.md"), *pairs("GUIDE.md"), *bad_lines()]
     if sys.argv[1] == "--write":
         for name, trace, out in examples:
             (pathlib.Path(sys.argv[2]) / f"{name}.trace").write_text(trace)

@@ -2,7 +2,8 @@
 """Writes the traces of examples/patterns and examples/frame.
 
 Each pattern is a function that makes the trace of its right form or, where `right` is false, of its broken
-form. What svval owes for a trace, the .out file beside it, is written by hand and not by this program.
+form; the frame is in frame_traces.py. What svval owes for a trace, the .out file beside it, is written by
+hand and not by this program.
 
     make_patterns.py           writes the files
     make_patterns.py --check   says which files differ from what would be written; status 1 where one does
@@ -10,62 +11,21 @@ form. What svval owes for a trace, the .out file beside it, is written by hand a
 import pathlib
 import sys
 
+from frame_traces import FRAMES
+from trace_parts import (
+    COLOR, COLOR_ACCESS, COLOR_WRITE, DEPTH, DEPTH_ACCESS, DEPTH_WRITE, DST, SAMPLED, SAMPLED_DEPTH, SRC,
+    TESTS, color_from_undefined, draw, draw_color, draw_depth, one_queue, submit_one, two_queues)
 from trace_writer import (
     Trace, attachment, barrier, batch, buffer_barrier, image_barrier, on_bytes, on_cells, pass_attachment,
     semaphore_use, subpass, subpass_dependency, view)
 
 EXAMPLES = pathlib.Path(__file__).resolve().parent.parent / "examples"
-PATTERNS, FRAMES = {}, {}
-
-COLOR, DEPTH = "color_attachment_optimal", "depth_stencil_attachment_optimal"
-SAMPLED, SAMPLED_DEPTH = "shader_read_only_optimal", "depth_stencil_read_only_optimal"
-SRC, DST = "transfer_src_optimal", "transfer_dst_optimal"
-TESTS = "early_fragment_tests|late_fragment_tests"
-DEPTH_ACCESS = "depth_stencil_attachment_read|depth_stencil_attachment_write"
-COLOR_ACCESS = "color_attachment_read|color_attachment_write"
-DEPTH_WRITE, COLOR_WRITE = "depth_stencil_attachment_write", "color_attachment_write"
+PATTERNS = {}
 
 
 def pattern(make):
     PATTERNS[make.__name__.replace("_", "-")] = make
     return make
-
-
-def one_queue():
-    """A trace with one queue, which lane 0 submits to."""
-    trace = Trace()
-    return trace, trace.queue(family=0, lane=0)
-
-
-def submit_one(trace, queue, rec):
-    rec.end()
-    trace.submit(queue, batch(recs=[rec]))
-
-
-def draw(rec, *accesses):
-    """A draw in a render scope of its own, whose attachments are left out."""
-    rec.begin_rendering()
-    rec.work(*accesses)
-    rec.end_rendering()
-
-
-def draw_color(rec, image, load="clear", accesses=()):
-    """A draw to a colour attachment, which is loaded and stored."""
-    rec.begin_rendering(attachment(image, "color", COLOR, load, "store"))
-    rec.work(*accesses, on_cells(image, "color_attachment_output", COLOR_WRITE, COLOR))
-    rec.end_rendering()
-
-
-def draw_depth(rec, image, layer=0):
-    """A draw to a depth attachment, which is cleared and stored."""
-    rec.begin_rendering(attachment(image, "depth", DEPTH, "clear", "store", layer=layer))
-    rec.work(on_cells(image, "early_fragment_tests", "depth_stencil_attachment_read", DEPTH, layer=layer),
-             on_cells(image, "late_fragment_tests", DEPTH_WRITE, DEPTH, layer=layer))
-    rec.end_rendering()
-
-
-def color_from_undefined(rec, image):
-    rec.barrier(image_barrier("", "", "color_attachment_output", COLOR_ACCESS, image, "undefined", COLOR))
 
 
 # Buffers
@@ -517,12 +477,6 @@ def upload_before_a_render_pass(right):
 # Queues
 
 
-def two_queues():
-    """Queue 0 for graphics, of family 0, and queue 1 of family 1, each with a lane of its own."""
-    trace = Trace()
-    return trace, trace.queue(family=0, lane=0), trace.queue(family=1, lane=1)
-
-
 def produce_and_draw(stage, access, reads, read_access, waits, signals, kind="binary", wait_first=False):
     """Queue 1 writes a buffer that both families share, queue 0 draws from it."""
     trace, graphics, other = two_queues()
@@ -674,105 +628,6 @@ def image_changes_its_family(right):
     trace.submit(transfer, batch(recs=[first], signals=[semaphore_use(sem)]))
     trace.submit(graphics, batch(recs=[second], waits=[semaphore_use(sem, "fragment_shader")]))
     return trace
-
-
-# A frame on two queues
-
-
-def upload(trace, staging, texture):
-    """Family 1 copies the texture and releases it to family 0."""
-    rec = trace.begin(recorder=1, family=1)
-    rec.barrier(image_barrier("", "", "copy", "transfer_write", texture, "undefined", DST))
-    rec.work(on_bytes(staging, "copy", "transfer_read", 0, 4096),
-             on_cells(texture, "copy", "transfer_write", DST))
-    rec.barrier(image_barrier("copy", "transfer_write", "", "", texture, DST, SAMPLED, src_family=1,
-                              dst_family=0))
-    rec.end()
-    return rec
-
-
-def shadow_pass(trace, shadow, render_pass):
-    """The shadow map is drawn: by dynamic rendering between two barriers, or in a render pass."""
-    rec = trace.begin(recorder=0, family=0)
-    draws = [on_cells(shadow, "early_fragment_tests", "depth_stencil_attachment_read", DEPTH),
-             on_cells(shadow, "late_fragment_tests", DEPTH_WRITE, DEPTH)]
-    if render_pass is None:
-        rec.barrier(image_barrier("", "", TESTS, DEPTH_ACCESS, shadow, "undefined", DEPTH))
-        rec.begin_rendering(attachment(shadow, "depth", DEPTH, "clear", "store"))
-        rec.work(*draws)
-        rec.end_rendering()
-        rec.barrier(image_barrier("late_fragment_tests", DEPTH_WRITE, "fragment_shader",
-                                  "shader_sampled_read", shadow, DEPTH, SAMPLED))
-    else:
-        rec.begin_pass(render_pass, view(shadow))
-        rec.work(*draws)
-        rec.end_pass()
-    rec.end()
-    return rec
-
-
-def color_pass(trace, images, buffers, families, between):
-    """The scene is drawn with both images, a compute shader reads it, and a copy reads what that wrote."""
-    texture, shadow, color = images
-    computed, readback = buffers
-    rec = trace.begin(recorder=1, family=0)
-    rec.barrier(
-        image_barrier("all_commands", "", "fragment_shader", "shader_sampled_read", texture, DST, SAMPLED,
-                      **families),
-        image_barrier("", "", "color_attachment_output", COLOR_ACCESS, color, "undefined", COLOR))
-    draw_color(rec, color, accesses=[on_cells(image, "fragment_shader", "shader_sampled_read", SAMPLED)
-                                     for image in (texture, shadow)])
-    rec.barrier(image_barrier("color_attachment_output", COLOR_WRITE, "compute_shader",
-                              "shader_sampled_read", color, COLOR, SAMPLED))
-    rec.work(on_cells(color, "compute_shader", "shader_sampled_read", SAMPLED),
-             on_bytes(computed, "compute_shader", "shader_storage_write", 0, 4096))
-    between(rec)
-    rec.work(on_bytes(computed, "copy", "transfer_read", 0, 4096),
-             on_bytes(readback, "copy", "transfer_write", 0, 4096))
-    rec.end()
-    return rec
-
-
-TO_COPY = barrier("compute_shader", "shader_storage_write", "copy", "transfer_read")
-
-
-def frame(between=lambda rec: rec.barrier(TO_COPY), event=False, in_pass=False, wait_first=False,
-          acquire=True):
-    trace, graphics, transfer = two_queues()
-    staging, texture, shadow, color = trace.buffer(4096), trace.image(), trace.image(), trace.image()
-    buffers = trace.buffer(4096), trace.buffer(4096)
-    uploaded = trace.semaphore("timeline", initial=0)
-    done = trace.fence()
-    if event:
-        computed = trace.event()
-        between = lambda rec: (rec.set_event(computed, TO_COPY), rec.wait_event(computed))
-    render_pass = None
-    if in_pass:
-        render_pass = trace.render_pass(
-            [pass_attachment("depth", "clear", "store", "undefined", SAMPLED)], [subpass((0, DEPTH))],
-            [subpass_dependency("external", 0, TESTS, "", TESTS, DEPTH_ACCESS),
-             subpass_dependency(0, "external", TESTS, DEPTH_WRITE, "fragment_shader", "shader_sampled_read")])
-    families = {"src_family": 1, "dst_family": 0} if acquire else {}
-    first = upload(trace, staging, texture)
-    second = shadow_pass(trace, shadow, render_pass)
-    third = color_pass(trace, (texture, shadow, color), buffers, families, between)
-    filled = batch(recs=[first], signals=[semaphore_use(uploaded, value=1)])
-    drawn = batch(recs=[second, third], waits=[semaphore_use(uploaded, value=1)])
-    if not wait_first:
-        trace.submit(transfer, filled)
-    trace.submit(graphics, drawn, fence=done)
-    trace.wait_fence(lane=0, fence=done)
-    if wait_first:
-        trace.submit(transfer, filled)
-    return trace
-
-
-FRAMES["frame"] = lambda: frame()
-FRAMES["frame-without-a-barrier"] = lambda: frame(between=lambda rec: None)
-FRAMES["frame-with-a-render-pass"] = lambda: frame(in_pass=True)
-FRAMES["frame-with-an-event"] = lambda: frame(event=True)
-FRAMES["frame-with-the-wait-first"] = lambda: frame(wait_first=True)
-FRAMES["frame-with-a-wrong-transfer"] = lambda: frame(acquire=False)
 
 
 def files():

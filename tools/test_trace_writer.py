@@ -285,6 +285,12 @@ class Shown(unittest.TestCase):
                 shown = re.search(r"^```\n(event .*?)```", text, re.M | re.S).group(1)
                 self.assertEqual(shown, (ROOT / "examples" / f"{example}.out").read_text())
 
+    def test_each_line_has_its_calls(self):
+        rows = re.findall(r"^\| [^|]+ \| ([^|]+) \| [^|]*\|$", (ROOT / "docs/GUIDE.md").read_text(), re.M)
+        ops = set(Schema().root["properties"]["op"]["enum"])
+        self.assertEqual(ops & {name for row in rows for name in re.findall(r"`(\w+)`", row)},
+                         ops - {"version"})
+
     def test_the_code_of_the_guide_runs(self):
         code = re.search(r"^```python\n(.*?)```", (ROOT / "docs/GUIDE.md").read_text(), re.M | re.S).group(1)
         with tempfile.TemporaryDirectory() as name:
