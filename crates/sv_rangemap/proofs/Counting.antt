@@ -1,12 +1,12 @@
 -- Chunks of a list: where an item stands, and what a change of one chunk is to the whole.
-use Rattle.std.proofs.Common.{ℕ, zero, suc, ◌≡◌, ◌<◌, ◌≤◌, ◌+◌, ◌-◌, ◌⊎◌, inl, inr, List, [], ◌∷◌, ◌++◌, length, get_or, take, drop, arith, refl, sym, ◌∙◌, ap, subst, add-one, length-append, append_assoc, Result, Ok, Err, OnErr}
+use Rattle.std.proofs.Common.{ℕ, zero, suc, ◌≡◌, ◌<◌, ◌≤◌, ◌+◌, ◌-◌, ◌⊎◌, inl, inr, List, [], ◌∷◌, ◌++◌, length, get_or, take, drop, arith, refl, sym, ◌∙◌, ap, subst, length-append, append_assoc, Result, Ok, Err, OnErr}
 use Rattle.std.proofs.Math.ListN.{set}
-use Rattle.std.specs.List.{flat_map, insert, remove}
+use Rattle.std.specs.List.{insert, remove}
 use Rattle.std.proofs.lemmas.List.{append-nil, length-set, take_more, drop_more, take-append-drop, take_all, set_split, set-append_left, set-append_right, get_or_default, get_or-set_same, get_or-set_other, take-set-le, take-append-le, take-take, take_more_set, drop-set-lt, length-take}
 use Rattle.std.proofs.lemmas.List.Concat.{flat_map-append, get_or-flat_map}
 use Rattle.std.proofs.lemmas.List.Edits.{insert-append_left, insert-append_right, remove-append_left, remove-append_right, length-insert, get_or-insert_below}
 use Rattle.sv_rangemap.specs.declared.chunk.Chunk.{Chunk}
-use Rattle.sv_rangemap.specs.Chunking.{AreChunks, AreCounted, HaveSameItems, IsChunkOf, items_in}
+use Rattle.sv_rangemap.specs.Chunking.{AreCounted, HaveSameItems, IsChunkOf, items_in}
 
 below_or : (c n : ℕ) → (c < n) ⊎ (n ≤ c)
 below_or c n = grind arith

@@ -1,4 +1,4 @@
-use Rattle.std.proofs.Common.{ℕ, ◌≡◌, ◌<◌, ◌+◌, ◌-◌, ◌∙◌, length, take, arith, refl, subst, ap}
+use Rattle.std.proofs.Common.{ℕ, ◌≡◌, ◌<◌, ◌+◌, ◌-◌, ◌∙◌, length, take, arith, refl, ap}
 use Rattle.sv_rangemap.specs.declared.chunk.Chunk.{Chunk}
 use Rattle.sv_rangemap.specs.Chunking.{items_in}
 use Rattle.sv_rangemap.proofs.Counting.{add_own, unchanged, same_set, counted_more, counted_same, count_within}

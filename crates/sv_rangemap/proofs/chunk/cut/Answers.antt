@@ -1,7 +1,7 @@
-use Rattle.std.proofs.Common.{ℕ, arith, refl, ap, subst, sym, ◌∙◌, ◌≡◌, ◌<◌, ◌+◌, ◌/◌, List, length}
+use Rattle.std.proofs.Common.{arith, refl, ap, subst, sym, ◌∙◌, ◌<◌, ◌+◌, ◌/◌, List, length}
 use Rattle.sv_rangemap.specs.declared.chunk.Chunk.{Chunk}
 use Rattle.sv_rangemap.specs.Chunking.{AreCounted, items_in}
-use Rattle.sv_rangemap.proofs.Counting.{cut_items, cut_counted, cut_long, same_items}
+use Rattle.sv_rangemap.proofs.Counting.{cut_items, cut_counted, same_items}
 use Rattle.sv_rangemap.proofs.chunk.cut.Goals as goal
 
 pub count-requires-clause-counted : goal.count-requires-clause-counted

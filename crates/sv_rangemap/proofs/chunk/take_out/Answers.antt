@@ -1,4 +1,4 @@
-use Rattle.std.proofs.Common.{arith, refl, ap, ◌∙◌, ◌≡◌, ◌<◌, length}
+use Rattle.std.proofs.Common.{arith, refl, ap, ◌∙◌, length}
 use Rattle.std.proofs.lemmas.List.Edits.{length-remove}
 use Rattle.sv_rangemap.specs.declared.chunk.Chunk.{Chunk}
 use Rattle.sv_rangemap.specs.Chunking.{items_in}

@@ -4,7 +4,7 @@ use Rattle.std.proofs.Math.ListN.{set, length-set}
 use Rattle.std.proofs.lemmas.List.Edits.{length-remove}
 use Rattle.sv_rangemap.specs.declared.part.Part.{Part}
 use Rattle.sv_rangemap.specs.Lines.{IsCut}
-use Rattle.sv_rangemap.proofs.Joins.{two_to_one, read_at}
+use Rattle.sv_rangemap.proofs.Joins.{two_to_one, read_at, unlike_as}
 use Rattle.sv_rangemap.proofs.join.join_at.Goals as goal
 
 pub returns-then-same-clause-long : goal.returns-then-same-clause-long
@@ -45,9 +45,7 @@ returns-else-same-clause-joined g c = λ go_on.
     let lt : k + 1 < length old = (let l = c.requires.listed in omega (arith, l, here)) in
     inl (
       refl,
-      λ d. ap (λ (p : g.row.V.Denot × g.row.V.Denot). g.V.Piece.is_same p.0 p.1)
-          (let a = ap (λ (p : Part g.row.V.Denot). p.value) (read_at old k first d (omega (arith, lt)) c.get.ensures) in
-          let b = ap (λ (p : Part g.row.V.Denot). p.value) (read_at old (k + 1) second d lt (c.get-2.ensures ∙ ap (λ (n : ℕ). get_or old n second) here)) in
-          let e : ((get_or old k d).value, (get_or old (k + 1) d).value) ≡ (first.value, second.value) = cc in e)
-          ∙ (sym c.same.ensures ∙ c.if-same.false),
+      λ d. unlike_as g.V.Piece.is_same _ _ _ _ (ap (λ (p : Part g.row.V.Denot). p.value) (read_at old k first d (omega (arith, lt)) c.get.ensures))
+          (ap (λ (p : Part g.row.V.Denot). p.value) (read_at old (k + 1) second d lt (c.get-2.ensures ∙ ap (λ (n : ℕ). get_or old n second) here)))
+          (sym c.same.ensures ∙ c.if-same.false),
     )

@@ -1,4 +1,4 @@
-use Rattle.std.proofs.Common.{arith, ap, subst, sym, ◌∙◌, ◌≡◌, ◌<◌, List, length, get_or}
+use Rattle.std.proofs.Common.{arith, ap, ◌∙◌, ◌≡◌, ◌<◌, List, length, get_or}
 use Rattle.sv_rangemap.specs.Items.{Items}
 use Rattle.sv_rangemap.specs.Chunking.{items_in}
 use Rattle.sv_rangemap.proofs.Counting.{place_read, item_read}
