@@ -3,14 +3,28 @@
 #![tactic(auto)]
 
 #[cfg(test)]
-mod number;
-#[cfg(test)]
-mod ranges;
-#[cfg(test)]
-mod states;
+mod acts;
 #[cfg(test)]
 mod areas;
 #[cfg(test)]
-mod runs;
+mod cells;
+#[cfg(test)]
+mod inside;
+#[cfg(test)]
+mod layouts;
 #[cfg(test)]
 mod maps;
+#[cfg(test)]
+mod number;
+#[cfg(test)]
+mod owners;
+#[cfg(test)]
+mod ranges;
+#[cfg(test)]
+mod runs;
+#[cfg(test)]
+mod spaces;
+#[cfg(test)]
+mod states;
+#[cfg(test)]
+mod texts;
