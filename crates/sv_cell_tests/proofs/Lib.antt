@@ -1,0 +1,4 @@
+pub mod CellsOnMap
+pub mod Declared
+pub mod NextElements
+pub mod Taken

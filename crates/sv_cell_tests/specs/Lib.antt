@@ -1,0 +1,4 @@
+pub mod OnMap
+pub mod Found
+pub mod NextSteps
+pub mod Standing
