@@ -1,3 +1,4 @@
+pub mod MoreRecordings
 pub mod OneMore
 pub mod OneRecording
 pub mod UsesTaken

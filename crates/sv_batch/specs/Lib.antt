@@ -1,2 +1,3 @@
 -- What runs in a batch.
 pub mod Running
+pub mod Begun

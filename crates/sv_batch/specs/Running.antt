@@ -27,6 +27,7 @@ use Rattle.sv_sema.specs.declared.semaphores.Pairing.{Pairing}
 use Rattle.sv_sema.specs.declared.semaphores.Pairing.TheVariants.{Initial, Token, NotYet}
 use Rattle.sv_work.specs.Works.{IsAt, WorkFits}
 use Rattle.sv_work.specs.declared.work.Work.{Work}
+use Rattle.sv_batch.specs.Begun.{AreInstancesOf}
 use Rattle.sv_batch.specs.declared.recordings.Published.{Published}
 use Rattle.sv_batch.specs.declared.recordings.Recordings.{Recordings}
 
@@ -45,8 +46,10 @@ AreOf t r = (k : ℕ) → IfSome (get nat_cmp r.published k) (IsPublication t k)
 abbrev pub IsThere : Trace → Recordings → ℕ → Type 0
 IsThere t r k = MatchOption (get nat_cmp r.published k) ⊥ (IsPublication t k)
 
--- the recordings that the events published are there, by their numbers, and each is a recording of the trace
+-- the recordings that the events published are there, by their numbers, and each is a recording of the trace,
+-- whose instances are known
 pub record ArePublished (t : Trace) (events : List Mark) (r : Recordings) : Type 0 where
+  pub instances : AreInstancesOf t r.instances
   pub each : AreOf t r
   pub all : (k : ℕ) → IsTrue (is_published events k) → IsThere t r k
 

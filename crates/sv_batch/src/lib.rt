@@ -2,6 +2,7 @@
 #![tactic(auto)]
 
 mod batches;
+mod instances;
 mod recordings;
 
 pub use batches::take_batch;

@@ -1,9 +1,6 @@
 //! The published recordings, and the steps of those that a batch runs.
-ghost use Rattle.std.specs.Prelude.{ℕ, ◌≡◌, ◌∷◌, ◌++◌, [], ◌==◌, List, OnOk, count_by, find};
-ghost use Rattle.std.specs.Option.{option_copied};
+ghost use Rattle.std.specs.Prelude.{ℕ, ◌≡◌, ◌∷◌, ◌++◌, [], IfOk, List, OnOk};
 ghost use Rattle.std.specs.List.{All};
-ghost use Rattle.sv_model.specs.Batches as spec;
-ghost use Rattle.sv_model.specs.Compile as compile;
 ghost use Rattle.sv_model.specs.declared.line.Mark.{Mark};
 ghost use Rattle.sv_model.specs.declared.line.Mark.TheVariants as mark;
 ghost use Rattle.sv_model.specs.declared.line.Trace.{Trace};
@@ -11,10 +8,11 @@ ghost use Rattle.sv_inside.specs.Steps.{IsStepOf};
 ghost use Rattle.sv_work.specs.Works.{WorkFits};
 ghost use Rattle.sv_batch.specs.Running.{AreOf, ArePublished, IsPublication, IsThere, MayRun, MayTakeSteps, are_recordings_after, are_steps_after, is_recording_after};
 
+use crate::instances::{instances_at, instances_of};
 use std::alloc::{AllocError, Global};
 use std::collections::BTreeMap;
 use sv_bound::{Run, sum, sum_small};
-use sv_model::line::{Command, Recording, Trace};
+use sv_model::line::Trace;
 use sv_model::recorded::Recorded;
 use sv_model::work::Step;
 use sv_range::List;
@@ -27,61 +25,32 @@ pub struct Published {
     pub instances: u64,
 }
 
-/// The published recordings, by their numbers.
+/// The published recordings, by their numbers, and how many instances each recording of the trace begins.
 #[derive(Drop)]
 pub struct Recordings {
     pub published: BTreeMap<u32, Published>,
-}
-
-fn begins(command: &Command) -> bool
-    ensures { result ≡ compile.begins command.now }
-{
-    matches!(
-        command,
-        Command::BeginRendering { .. } | Command::BeginPass { .. }
-    )
-}
-
-fn recording_of(recordings: &[Recording], number: u32) -> Option<&Recording>
-    ensures { option_copied result ≡ find (λ r. r.rec == number) recordings.now }
-{
-    recordings.iter().find(|recording| recording.rec == number)
-}
-
-fn begun(commands: &[Command]) -> usize
-    ensures { result ≡ count_by compile.begins commands.now }
-{
-    commands.iter().filter(|command| begins(command)).count()
-}
-
-fn instances_of(trace: &Trace, number: u32) -> u64
-    ensures { result ≡ spec.instances_of trace.now number }
-{
-    match recording_of(trace.recordings.as_slice(), number) {
-        None => 0,
-        Some(recording) => begun(recording.commands.as_slice()) as u64,
-    }
+    pub instances: BTreeMap<u32, u64>,
 }
 
 impl Recordings {
-    /// None is published.
-    pub fn new(alloc: Global) -> Recordings
-        ensures { (t : Trace) → ArePublished t [] result }
+    /// Of the recordings of the trace none is published. Fails only for want of memory.
+    pub fn new(alloc: Global, trace: &Trace) -> Result<Recordings, AllocError>
+        ensures { IfOk result (ArePublished trace.now []) }
     {
-        Recordings {
+        Ok(Recordings {
             published: BTreeMap::new(alloc),
-        }
+            instances: instances_of(alloc, trace.recordings.as_slice())?,
+        })
     }
 
-    /// A recording of the trace is published.
-    pub fn publish(&mut self, trace: &Trace, recorded: Recorded) -> Result<(), AllocError>
-        ensures of { OnOk result (recorded.of.value ≡ trace.now → AreOf trace.now self.old → AreOf trace.now self.new) }
-        ensures published { OnOk result ((events : List Mark) → recorded.of.value ≡ trace.now → ArePublished trace.now events self.old → ArePublished trace.now (events ++ mark.Publish recorded.number ∷ []) self.new) }
+    /// A recording of the trace is published. Fails only for want of memory.
+    pub fn publish(&mut self, recorded: Recorded) -> Result<(), AllocError>
+        ensures { OnOk result ((t : Trace) (events : List Mark) → recorded.of.value ≡ t → ArePublished t events self.old → ArePublished t (events ++ mark.Publish recorded.number ∷ []) self.new) }
     {
         let number = recorded.number();
         let published = Published {
+            instances: instances_at(&self.instances, number),
             steps: recorded.into_steps(),
-            instances: instances_of(trace, number),
         };
         self.published.insert(number, published)?;
         Ok(())

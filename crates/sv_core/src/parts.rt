@@ -38,7 +38,7 @@ impl Parts {
     {
         Ok(Parts {
             gate: Gate::open(alloc, trace)?,
-            recordings: Recordings::new(alloc),
+            recordings: Recordings::new(alloc, trace)?,
             work: Work::open(alloc, trace)?,
         })
     }
@@ -52,7 +52,7 @@ impl Parts {
         match event {
             Event::Publish(recorded) => {
                 let mark = Mark::Publish(recorded.number());
-                self.recordings.publish(trace, recorded)?;
+                self.recordings.publish(recorded)?;
                 self.gate.arrive(mark, number)
             }
             Event::Call { lane, index } => self.gate.arrive(Mark::Call { lane, index }, number),

@@ -4,4 +4,4 @@ use Rattle.sv_core.proofs.parts.Parts.arrive.Goals as goal
 
 pub returns-in_ok-publish-in-Publish-clause-recordings : goal.returns-in_ok-publish-in-Publish-clause-recordings
 returns-in_ok-publish-in-Publish-clause-recordings c = on_ok_always c.arrive.result
-    (published_event c.args.trace.now c.args.event (Publish c.in-Publish.recorded) c.args.self.now.recordings c.publish.new.self c.in-Publish.is (λ history own published. c.in_ok-publish-in-Publish.ensures.published history own published))
+    (published_event c.args.trace.now c.args.event (Publish c.in-Publish.recorded) c.args.self.now.recordings c.publish.new.self c.in-Publish.is (λ history own published. c.in_ok-publish-in-Publish.ensures c.args.trace.now history own published))

@@ -3,7 +3,7 @@ use Rattle.std.proofs.lemmas.Iterator.{YieldsList-from_slice}
 use Rattle.std.proofs.lemmas.Iterator.Consumers.{YieldsList-from_filter, count_from_yields_List}
 use Rattle.std.proofs.lemmas.List.Sums.{length-filter}
 use Rattle.sv_model.specs.Compile.{begins}
-use Rattle.sv_batch.proofs.recordings.begun.Goals as goal
+use Rattle.sv_batch.proofs.instances.begun.Goals as goal
 
 pub returns : goal.returns
 returns c =
