@@ -76,8 +76,12 @@ fn take(
     let layout_notes = cells.layouts.apply(step)?;
     let owner_notes = cells.owners.apply(step)?;
     answers.reports.extend_from_slice(reports.as_slice())?;
-    answers.layout_notes.extend_from_slice(layout_notes.as_slice())?;
-    answers.owner_notes.extend_from_slice(owner_notes.as_slice())
+    answers
+        .layout_notes
+        .extend_from_slice(layout_notes.as_slice())?;
+    answers
+        .owner_notes
+        .extend_from_slice(owner_notes.as_slice())
 }
 
 // The act is taken as the step with that number. Tells whether it lies inside the resources of the trace.
@@ -112,7 +116,14 @@ pub fn take_all(alloc: Global, text: &str, acts: &[Act]) -> Result<Option<Tried>
     let mut cells = open(alloc, &trace)?;
     let mut answers = no_answers(alloc);
     for number in 0..acts.len() {
-        if !take_act(alloc, &trace, &mut cells, &mut answers, number as u64, acts[number])? {
+        if !take_act(
+            alloc,
+            &trace,
+            &mut cells,
+            &mut answers,
+            number as u64,
+            acts[number],
+        )? {
             return Ok(None);
         }
     }

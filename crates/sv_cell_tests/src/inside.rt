@@ -33,9 +33,11 @@ fn has_bytes(line: &Line, res: u32, span: Span) -> bool
     ensures { IsTrue result → IsIn (says_resource res line.now) (area.Bytes res span) }
 {
     match line {
-        Line::Buffer { res: number, size, .. } => *number == res
-            && span.start < span.end
-            && span.end <= *size,
+        Line::Buffer {
+            res: number,
+            size,
+            ..
+        } => *number == res && span.start < span.end && span.end <= *size,
         _ => false,
     }
 }

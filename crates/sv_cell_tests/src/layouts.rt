@@ -72,12 +72,7 @@ static ROWS: [Row; 14] = [
     // a run for each mip
     Row {
         text: PLAIN,
-        acts: &[Act::Use(
-            0,
-            SAMPLED_READ,
-            At::Image(0, 2, 1, 2),
-            Some(GENERAL),
-        )],
+        acts: &[Act::Use(0, SAMPLED_READ, At::Image(0, 2, 1, 2), Some(GENERAL))],
         notes: &[
             (0, At::Image(0, 1, 1, 2), SAMPLED, GENERAL, UNDEFINED),
             (0, At::Image(1, 1, 1, 2), SAMPLED, GENERAL, UNDEFINED),
@@ -176,11 +171,7 @@ static ROWS: [Row; 14] = [
     // an element without a transition
     Row {
         text: PLAIN,
-        acts: &[Act::Element(
-            NOTHING,
-            FIRST,
-            Change::Layouts(0, GENERAL, GENERAL),
-        )],
+        acts: &[Act::Element(NOTHING, FIRST, Change::Layouts(0, GENERAL, GENERAL))],
         notes: &[(0, FIRST, None, GENERAL, UNDEFINED)],
         layouts: &[(1, 0, UNDEFINED)],
     },

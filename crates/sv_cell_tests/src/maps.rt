@@ -318,7 +318,10 @@ fn cells_are_found_by_number(rt: HostRuntime) -> Result<(), Fail> {
     let table = layers(rt.alloc())?;
     assert!(rt; table.as_slice() == [0, 0, 4].as_slice());
     for (res, number, cell) in &NUMBERED {
-        assert!(rt; is_numbered(table.as_slice(), *res, *number, *cell), "cell {number}");
+        assert!(rt;
+            is_numbered(table.as_slice(), *res, *number, *cell),
+            "cell {number}"
+        );
     }
     Ok(())
 }

@@ -83,12 +83,7 @@ static ROWS: [Row; 19] = [
             Act::Use(1, COPY_READ, At::Bytes(16, 48), None),
         ],
         notes: &[(1, At::Bytes(16, 32), READS, ZERO)],
-        owners: &[
-            (0, 15, ZERO),
-            (0, 16, ONE),
-            (0, 47, ONE),
-            (0, 48, NOBODY),
-        ],
+        owners: &[(0, 15, ZERO), (0, 16, ONE), (0, 47, ONE), (0, 48, NOBODY)],
     },
     Row {
         text: PLAIN,
@@ -114,12 +109,7 @@ static ROWS: [Row; 19] = [
             (1, At::Image(0, 1, 1, 2), SAMPLES, ZERO),
             (1, At::Image(1, 1, 1, 2), SAMPLES, ZERO),
         ],
-        owners: &[
-            (1, 4, ZERO),
-            (1, 5, ONE),
-            (1, 8, NOBODY),
-            (1, 9, ONE),
-        ],
+        owners: &[(1, 4, ZERO), (1, 5, ONE), (1, 8, NOBODY), (1, 9, ONE)],
     },
     // a release, and a use or an acquire behind it
     Row {

@@ -115,12 +115,7 @@ fn split_span(line: &mut RangeMap<Number>, start: u64, end: u64) -> Result<bool,
     Ok(true)
 }
 
-fn fill(
-    line: &mut RangeMap<Number>,
-    start: u64,
-    end: u64,
-    value: u64,
-) -> Result<bool, AllocError> {
+fn fill(line: &mut RangeMap<Number>, start: u64, end: u64, value: u64) -> Result<bool, AllocError> {
     if !has(line, start, end) {
         return Ok(false);
     }

@@ -9,8 +9,10 @@ use crate::areas::At;
 use std::alloc::{AllocError, Global};
 use std::test::Fail;
 use sv_mask::{Layout, Usage};
-use sv_model::work::{Access, Area, EventNote, Kind, LayoutNote, Note, Owner, OwnerNote, OwnerWhat, Place};
-use sv_model::work::{Report, What};
+use sv_model::work::{
+    Access, Area, EventNote, Kind, LayoutNote, Note, Owner, OwnerNote, OwnerWhat, Place, Report,
+    What,
+};
 use sv_range::List;
 use sv_runs::{add_note, add_run};
 

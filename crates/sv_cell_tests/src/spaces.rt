@@ -162,11 +162,7 @@ static ROWS: [Row; 13] = [
             Act::Element(
                 TO_FRAGMENTS,
                 FIRST,
-                Change::Layouts(
-                    0,
-                    Layout::TransferDstOptimal,
-                    Layout::ShaderReadOnlyOptimal,
-                ),
+                Change::Layouts(0, Layout::TransferDstOptimal, Layout::ShaderReadOnlyOptimal),
             ),
         ],
         races: &[(FIRST, 2, 1, Kind::Waw)],

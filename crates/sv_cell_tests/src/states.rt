@@ -367,7 +367,13 @@ fn make(alloc: Global, state: &mut CellState, next: Move) -> Result<(), AllocErr
             first,
             end,
         } => record_each(state, queue, usage, first, end),
-        Move::Barrier { step, s1, a1, s2, a2 } => {
+        Move::Barrier {
+            step,
+            s1,
+            a1,
+            s2,
+            a2,
+        } => {
             let group = group_of(alloc, step, barrier(s1, a1, s2, a2))?;
             state.extend(&group, &byte())
         }

@@ -7,7 +7,8 @@ pub const PLAIN: &str = r#"{"op":"queue","queue":0,"family":0,"lane":0}
 "#;
 
 /// The image is preinitialized.
-pub const PREINITIALIZED: &str = r#"{"op":"image","res":1,"mips":3,"layers":4,"initial":"preinitialized"}
+pub const PREINITIALIZED: &str =
+    r#"{"op":"image","res":1,"mips":3,"layers":4,"initial":"preinitialized"}
 "#;
 
 /// Both are concurrent.
