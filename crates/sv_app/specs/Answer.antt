@@ -1,6 +1,6 @@
--- What is written for a text, and with which status.
-use Rattle.std.specs.Prelude.{ℕ, Bool, ◌≡◌, ◌==◌, ◌&&◌, if◌then◌else◌, List, Result, Ok, Err, length}
-use Rattle.std.specs.List.{list_all}
+-- What is written for a text, with which status, and which reports are printed.
+use Rattle.std.specs.Prelude.{ℕ, Bool, ◌≡◌, ◌==◌, ◌&&◌, if◌then◌else◌, List, [], Result, Ok, Err, length}
+use Rattle.std.specs.List.{flat_map, list_all}
 use Rattle.sv_model.specs.Flow.{held_items}
 use Rattle.sv_model.specs.History.{IsWhole}
 use Rattle.sv_model.specs.Lawful.{IsLawful}
@@ -10,6 +10,7 @@ use Rattle.sv_model.specs.declared.line.Trace.{Trace}
 use Rattle.sv_model.specs.declared.refusal.Refusal.{Refusal}
 use Rattle.sv_model.specs.declared.work.Held.{Held}
 use Rattle.sv_model.specs.declared.work.Reply.{Reply}
+use Rattle.sv_model.specs.declared.work.Report.{Report}
 use Rattle.sv_report.specs.Lines.{refusal_line}
 use Rattle.sv_report.specs.Text.{history_text}
 use Rattle.sv_rules.specs.Outcome.{IsOutcomeOf}
@@ -28,22 +29,37 @@ is_clean replies held = list_all is_silent replies && length held == 0
 abbrev pub status_of : List Reply → List Held → Status
 status_of replies held = if is_clean replies held then Clean else Found
 
--- The text of a whole history of a trace, and its status: each event is printed with the reply to it, and then what is
--- held at the end.
-pub record IsTextOf (t : Trace) (history : List Mark) (status : Status) (text : List ℕ) : Type 0 where
+-- the reports that a text has, in its order
+abbrev pub printed_reports : List Reply → List Report
+printed_reports replies = flat_map (λ (r : Reply). r.reports) replies
+
+-- A whole history of a trace, with the replies to its events, and the status of these and of what is held at the end.
+pub record IsChecked (t : Trace) (history : List Mark) (replies : List Reply) (status : Status) : Type 0 where
   pub whole : IsWhole t history
-  pub replies : List Reply
   pub answered : AreReplies t history replies
   pub has_status : status ≡ status_of replies (held_items t history)
+
+-- The text of a whole history of a trace, and its status: each event is printed with the reply to it, and then what is
+-- held at the end. The reports are those that are printed.
+pub record IsTextOf (t : Trace) (history : List Mark) (status : Status) (text : List ℕ) (reports : List Report) : Type 0 where
+  pub replies : List Reply
+  pub checked : IsChecked t history replies status
   pub has_text : text ≡ history_text t history replies (held_items t history)
+  pub has_reports : reports ≡ printed_reports replies
+
+-- the line of a refusal, and its status; no report is printed
+pub record IsRefusalLine (refusal : Refusal) (status : Status) (text : List ℕ) (reports : List Report) : Type 0 where
+  pub has_status : status ≡ Refused
+  pub has_text : text ≡ refusal_line refusal
+  pub has_reports : reports ≡ []
 
 -- what is written for an outcome, and the status: the text of the trace, which is lawful, in the order of its lines, or
 -- the line of the refusal
-abbrev pub IsAnswerOf : Result Trace Refusal → Status → List ℕ → Type 0
-IsAnswerOf (Err refusal) status text = (status ≡ Refused) × (text ≡ refusal_line refusal)
-IsAnswerOf (Ok t) status text = IsLawful t × IsTextOf t t.text_order status text
+abbrev pub IsAnswerOf : Result Trace Refusal → Status → List ℕ → List Report → Type 0
+IsAnswerOf (Err refusal) status text reports = IsRefusalLine refusal status text reports
+IsAnswerOf (Ok t) status text reports = IsLawful t × IsTextOf t t.text_order status text reports
 
--- the text is the answer to these bytes, with this status
-abbrev pub IsAnswerTo : List ℕ → Status → List ℕ → Type 0
-IsAnswerTo bytes status text = (outcome : Result Trace Refusal) × IsOutcomeOf bytes outcome
-    × IsAnswerOf outcome status text
+-- the text is the answer to these bytes, with this status, and these are the reports in it
+abbrev pub IsAnswerTo : List ℕ → Status → List ℕ → List Report → Type 0
+IsAnswerTo bytes status text reports = (outcome : Result Trace Refusal) × IsOutcomeOf bytes outcome
+    × IsAnswerOf outcome status text reports

@@ -1,4 +1,5 @@
 pub mod Answer
+pub mod Asked
+pub mod Bench
 pub mod Run
 pub mod Status
-pub mod Words

@@ -1,6 +1,8 @@
 -- What a run has done, by the status with which it ends.
-use Rattle.std.specs.Prelude.{◌≡◌, ℕ, ◌+◌, ◌≤◌, Bool, true, List, Option, IfSome, length, take, ⊤}
+use Rattle.std.specs.Prelude.{◌≡◌, ℕ, ◌+◌, ◌≤◌, Bool, true, List, Option, Some, IfSome, length, take, ⊤}
 use Rattle.std.specs.Io.KnownBytes.{Appends, IsAtEnd}
+use Rattle.sv_words.specs.declared.ask.Ask.{Ask}
+use Rattle.sv_words.specs.declared.ask.Ask.TheVariants.{Check}
 use Rattle.sv_app.specs.declared.status.Status.{Status}
 use Rattle.sv_app.specs.declared.status.Status.TheVariants.{Clean, Found, Refused, Usage, ReadFault, WriteFault, Memory, TooLong}
 
@@ -38,12 +40,17 @@ IsAnsweredOrMemory Memory = ⊤
 IsAnsweredOrMemory TooLong = ⊥
 
 -- the bytes are all that the source had left, and it came to its end
-pub record GaveAll (bytes : List ℕ) (old_left new_left : Option (List ℕ)) (old_given new_given : ℕ) (at_end : Bool)
+pub record GaveAll {S : Type 0} (left_of : S → Option (List ℕ)) (given_by : S → ℕ) (is_at_end : S → Bool) (bytes : List ℕ) (old new : S)
     : Type 0 where
-  pub all : IfSome old_left (λ left. left ≡ bytes)
-  pub nothing_left : IsAtEnd new_left
-  pub given : new_given ≡ old_given + length bytes
-  pub ended : at_end ≡ true
+  pub all : IfSome (left_of old) (λ left. left ≡ bytes)
+  pub nothing_left : IsAtEnd (left_of new)
+  pub given : given_by new ≡ given_by old + length bytes
+  pub ended : is_at_end new ≡ true
+
+-- `check` asks about the bytes of the source, and what else is asked for reads nothing
+abbrev pub IsInput : {S : Type 0} → (S → Option (List ℕ)) → (S → ℕ) → (S → Bool) → Option Ask → (bytes : List ℕ) (old new : S) → Type 0
+IsInput left_of given_by is_at_end (Some Check) bytes old new = GaveAll left_of given_by is_at_end bytes old new
+IsInput left_of given_by is_at_end other bytes old new = new ≡ old
 
 -- a first part of the text, maybe all of it, was written
 abbrev pub AppendsPart : Option (List ℕ) → Option (List ℕ) → List ℕ → Type 0

@@ -1,11 +1,12 @@
-//! The validator from bytes to bytes: what is read, what is accepted and what is written.
+//! The validator from bytes to bytes: what is asked for, what is read, what is accepted and what is written.
 #![tactic(auto)]
 
 mod answer;
+mod asked;
+mod bench;
 mod run;
 mod status;
 mod validating;
-mod words;
 
 pub use run::check_run;
 pub use status::Status;

@@ -2,6 +2,7 @@ use super::*;
 use std::alloc::{AllocError, Global};
 use std::test::Fail;
 use sv_io::{MAX_TEXT, MemSink, MemSource};
+use sv_words::is_replay;
 
 const QUEUE: &str = "{\"op\":\"queue\",\"queue\":0,\"family\":0,\"lane\":0}\n";
 
@@ -68,6 +69,10 @@ const AFTER_THE_WRITE: &str = " after transfer_write@copy 1.0.0 rec 0 cmd 0\n";
 
 const AFTER_THE_BLIT: &str = " after transfer_read@blit 1.0.0 rec 0 cmd 2\n";
 
+// The draws are 3519, 0 and 1.
+const GENERATED: &str =
+    "{\"op\":\"queue\",\"queue\":0,\"family\":0,\"lane\":0}\n{\"op\":\"queue\",\"queue\":1,\"family\":0,\"lane\":1}\n{\"op\":\"buffer\",\"res\":0,\"size\":65536}\n{\"op\":\"semaphore\",\"sem\":0,\"kind\":\"timeline\",\"initial\":0}\n{\"op\":\"begin\",\"rec\":0,\"recorder\":0,\"family\":0}\n{\"op\":\"work\",\"rec\":0,\"accesses\":[{\"res\":0,\"stage\":\"copy\",\"access\":\"transfer_read\",\"start\":56304,\"end\":56320}]}\n{\"op\":\"barrier\",\"rec\":0,\"deps\":[{\"src\":[\"copy\"],\"src_access\":[\"transfer_write\"],\"dst\":[\"copy\"],\"dst_access\":[\"transfer_read\",\"transfer_write\"]}]}\n{\"op\":\"end\",\"rec\":0}\n{\"op\":\"submit\",\"lane\":0,\"queue\":0,\"batches\":[{\"waits\":[{\"sem\":0,\"value\":0,\"stages\":[\"all_commands\"]}],\"recs\":[0],\"signals\":[{\"sem\":0,\"value\":1,\"stages\":[\"all_commands\"]}]}]}\n";
+
 const NOTHING: &str = "total events 0 reports 0 notes 0 held 0\n";
 
 const NONE_OF_2: &str = "total events 2 reports 0 notes 0 held 0\n";
@@ -95,11 +100,14 @@ fn words_of(alloc: Global, words: &[&str]) -> Result<Vec<String>, AllocError> {
     Ok(all)
 }
 
-// The number of the status, and what is written.
+// The number of the status, and what is written, of words that are not `replay`.
 fn ran(alloc: Global, words: &[&str], text: Vec<u8>) -> Result<(u8, Vec<u8>), AllocError> {
     let words = words_of(alloc, words)?;
     let mut source = MemSource::new(text, Vec::new(alloc), Vec::new(alloc));
     let mut sink = MemSink::new(alloc, ROOM, Vec::new(alloc), Vec::new(alloc))?;
+    if is_replay(words.as_slice()) {
+        return Err(AllocError);
+    }
     let status = check_run(alloc, words.as_slice(), &mut source, &mut sink);
     Ok((status.number(), sink.bytes().to_vec(alloc)?))
 }
@@ -229,12 +237,25 @@ fn answers_texts(rt: HostRuntime) -> Result<(), Fail> {
 }
 
 #[test]
-fn other_words_are_usage(rt: HostRuntime) -> Result<(), Fail> {
-    let table: [&[&str]; 3] = [&[], &["check", "now"], &["chec"]];
-    for words in table {
+fn answers_words(rt: HostRuntime) -> Result<(), Fail> {
+    let table: [(&[&str], u8, &str); 8] = [
+        (&["gen", "0", "1"], 0, GENERATED),
+        (
+            &["bench", "0", "1"],
+            0,
+            "bench seed 0 count 1 events 2 reports 0 notes 0 held 0\n",
+        ),
+        (&[], 3, ""),
+        (&["check", "now"], 3, ""),
+        (&["chec"], 3, ""),
+        (&["--help"], 3, ""),
+        (&["-x"], 3, ""),
+        (&["gen", "0", "0"], 3, ""),
+    ];
+    for (words, number, written) in table {
         let answer = ran(rt.alloc(), words, Vec::new(rt.alloc()))?;
-        assert_eq!(rt; answer.0, 3);
-        assert!(rt; answer.1.is_empty());
+        assert_eq!(rt; answer.0, number);
+        assert_eq!(rt; answer.1.as_slice(), written.as_bytes());
     }
     Ok(())
 }
@@ -242,9 +263,14 @@ fn other_words_are_usage(rt: HostRuntime) -> Result<(), Fail> {
 #[test]
 fn stops_at_faults(rt: HostRuntime) -> Result<(), Fail> {
     // The calls that fail, of the source and of the sink, whose first calls take 8 bytes.
-    let table = [(1u64, 9u64, 4u8, ""), (9, 0, 5, ""), (9, 1, 5, "event 0 ")];
-    let words = words_of(rt.alloc(), &["check"])?;
-    for (source_fails, sink_fails, number, written) in table {
+    let table: [(&[&str], u64, u64, u8, &str); 4] = [
+        (&["check"], 1, 9, 4, ""),
+        (&["check"], 9, 0, 5, ""),
+        (&["check"], 9, 1, 5, "event 0 "),
+        (&["gen", "0", "1"], 0, 1, 5, "{\"op\":\"q"),
+    ];
+    for (words, source_fails, sink_fails, number, written) in table {
+        let words = words_of(rt.alloc(), words)?;
         let text = joined(rt.alloc(), WRITE_THEN_READ)?;
         let pieces = vec![in rt.alloc(); 8usize]?;
         let fails = vec![in rt.alloc(); source_fails]?;
@@ -252,6 +278,7 @@ fn stops_at_faults(rt: HostRuntime) -> Result<(), Fail> {
         let pieces = vec![in rt.alloc(); 8usize]?;
         let fails = vec![in rt.alloc(); sink_fails]?;
         let mut sink = MemSink::new(rt.alloc(), ROOM, pieces, fails)?;
+        assert!(rt; !is_replay(words.as_slice()));
         let status = check_run(rt.alloc(), words.as_slice(), &mut source, &mut sink);
         assert_eq!(rt; status.number(), number);
         assert_eq!(rt; sink.bytes(), written.as_bytes());

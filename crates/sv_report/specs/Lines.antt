@@ -35,9 +35,12 @@ report_line r = codes "  " ++ kind_text r.kind ++ codes " " ++ area_text r.area 
 unfoldable pub count_text : List ℕ → ℕ → List ℕ
 count_text word count = codes " " ++ word ++ codes " " ++ decimal count
 
--- how many events there are, and how many lines of reports, notes and held items
+-- how many events there are, and how many lines of reports, notes and held items, to the end of the line
+unfoldable pub counts_text : ℕ → ℕ → ℕ → ℕ → List ℕ
+counts_text events reports notes held = count_text (codes "events") events ++ count_text (codes "reports") reports ++ count_text (codes "notes") notes ++ count_text (codes "held") held ++ codes "\n"
+
 unfoldable pub total_line : ℕ → ℕ → ℕ → ℕ → List ℕ
-total_line events reports notes held = codes "total" ++ count_text (codes "events") events ++ count_text (codes "reports") reports ++ count_text (codes "notes") notes ++ count_text (codes "held") held ++ codes "\n"
+total_line events reports notes held = codes "total" ++ counts_text events reports notes held
 
 abbrev pub limit_text : LimitName → List ℕ
 limit_text limit.Lines = codes "lines"

@@ -90,8 +90,8 @@ pub fn push_all_held(text: &mut String, held: &[Held]) -> Result<(), AllocError>
     Ok(())
 }
 
-// How many reports the replies have together.
-fn report_count(replies: &[Reply]) -> u128
+/// How many reports the replies have together.
+pub fn report_count(replies: &[Reply]) -> u128
     ensures { result ≡ reports_of replies.now }
 {
     let mut count = 0;
@@ -101,8 +101,8 @@ fn report_count(replies: &[Reply]) -> u128
     count
 }
 
-// How many notes the replies have together.
-fn note_count(replies: &[Reply]) -> u128
+/// How many notes the replies have together.
+pub fn note_count(replies: &[Reply]) -> u128
     ensures { result ≡ notes_of replies.now }
 {
     let mut count = 0;

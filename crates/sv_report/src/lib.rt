@@ -10,8 +10,10 @@ mod pieces;
 mod refusals;
 mod replies;
 
-pub use events::{push_all_held, push_event, push_events, push_history, text};
-pub use lines::{push_call, push_publish, push_report, push_total};
+pub use events::{
+    note_count, push_all_held, push_event, push_events, push_history, report_count, text,
+};
+pub use lines::{push_call, push_count, push_counts, push_publish, push_report, push_total};
 pub use notes::{push_held, push_note};
 pub use refusals::{push_refusal, refusal_text};
 pub use replies::push_reply;

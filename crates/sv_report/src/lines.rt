@@ -1,6 +1,6 @@
 // The lines of events and their replies, and the total.
 ghost use Rattle.std.specs.Prelude.{◌≡◌, ◌++◌, OnOk, string_bytes};
-ghost use Rattle.sv_report.specs.Lines.{publish_line, call_text, call_line, report_line, count_text, total_line};
+ghost use Rattle.sv_report.specs.Lines.{publish_line, call_text, call_line, report_line, count_text, counts_text, total_line};
 
 use crate::pieces::{kind_word, push_access, push_area};
 use std::alloc::AllocError;
@@ -65,16 +65,34 @@ pub fn push_report(text: &mut String, report: &Report) -> Result<(), AllocError>
     text.push_str("\n")
 }
 
-// Appends how many there are of what the word names.
+/// Appends how many there are of what the word names.
 #[tactic(auto, unfolding(crate::specs::Lines::count_text))]
-fn push_count(text: &mut String, word: &str, count: u128) -> Result<(), AllocError>
+pub fn push_count(text: &mut String, word: &str, count: u128) -> Result<(), AllocError>
     ensures { OnOk result (string_bytes text.new ≡ string_bytes text.old ++ count_text word.now count) }
 {
     write!(text, " {word} {count}")
 }
 
-/// Appends the last line: how many events there are, and how many lines of reports, notes and held items.
+/// Appends how many events there are, and how many lines of reports, notes and held items, and ends the line.
 /// The counts are wide, since they are sums over lists of any length.
+#[tactic(auto, unfolding(crate::specs::Lines::counts_text))]
+pub fn push_counts(
+    text: &mut String,
+    events: u128,
+    reports: u128,
+    notes: u128,
+    held: u128,
+) -> Result<(), AllocError>
+    ensures { OnOk result (string_bytes text.new ≡ string_bytes text.old ++ counts_text events reports notes held) }
+{
+    push_count(text, "events", events)?;
+    push_count(text, "reports", reports)?;
+    push_count(text, "notes", notes)?;
+    push_count(text, "held", held)?;
+    text.push_str("\n")
+}
+
+/// Appends the last line, with the counts.
 #[tactic(auto, unfolding(crate::specs::Lines::total_line))]
 pub fn push_total(
     text: &mut String,
@@ -86,9 +104,5 @@ pub fn push_total(
     ensures { OnOk result (string_bytes text.new ≡ string_bytes text.old ++ total_line events reports notes held) }
 {
     text.push_str("total")?;
-    push_count(text, "events", events)?;
-    push_count(text, "reports", reports)?;
-    push_count(text, "notes", notes)?;
-    push_count(text, "held", held)?;
-    text.push_str("\n")
+    push_counts(text, events, reports, notes, held)
 }

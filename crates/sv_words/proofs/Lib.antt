@@ -1,3 +1,4 @@
+mod Bounds
 mod Kept
 mod Numerals
 mod Places

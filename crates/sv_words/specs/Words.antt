@@ -1,5 +1,5 @@
 -- The rules of words: `check` alone, `replay` alone, or `gen` or `bench` with SEED and COUNT after it.
-use Rattle.std.specs.Prelude.{ℕ, ◌-◌, ◌^◌, Bool, ◌&&◌, nat_le, nat_lt, List, [], ◌∷◌, Option, Some, None, codes, length, map, string_bytes, if◌then◌else◌}
+use Rattle.std.specs.Prelude.{ℕ, ◌-◌, ◌^◌, ◌≤◌, ⊤, Bool, ◌&&◌, nat_le, nat_lt, List, [], ◌∷◌, Option, Some, None, codes, length, map, string_bytes, if◌then◌else◌}
 use Rattle.std.specs.List.{list_all}
 use Rattle.std.specs.Str.{bytes_eq}
 use Rattle.std.specs.Str.Parse.{digits_value}
@@ -65,3 +65,10 @@ texts_of words = map (λ (word : String Global). string_bytes word) words
 
 abbrev pub asked : List (String Global) → Option Ask
 asked words = asked_by (texts_of words)
+
+-- where works are counted, they are 1 to 100,000
+abbrev pub IsInBounds : Ask → Type 0
+IsInBounds Check = ⊤
+IsInBounds Replay = ⊤
+IsInBounds (Generate seed count) = (1 ≤ count) × (count ≤ 100000)
+IsInBounds (Bench seed count) = (1 ≤ count) × (count ≤ 100000)

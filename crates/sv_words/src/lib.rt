@@ -6,7 +6,7 @@ mod numbers;
 mod reading;
 
 pub use ask::Ask;
-pub use reading::{is_usage, read};
+pub use reading::{is_replay, is_usage, read};
 
 #[cfg(test)]
 mod tests;

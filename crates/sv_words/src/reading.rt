@@ -1,7 +1,7 @@
 //! Words that are read.
-ghost use Rattle.std.specs.Prelude.{◌≡◌, IfOk, is_none, option_map};
+ghost use Rattle.std.specs.Prelude.{◌≡◌, ◌↔◌, IfOk, IfSome, IsTrue, is_none, option_map};
 ghost use Rattle.clap.specs.Words.{app_of};
-ghost use Rattle.sv_words.specs.Words.{asked, asked_alone, asked_of_text, asked_read, asked_with, count_of, seed_of};
+ghost use Rattle.sv_words.specs.Words.{IsInBounds, asked, asked_alone, asked_of_text, asked_read, asked_with, count_of, seed_of};
 ghost use Rattle.sv_words.specs.Reading.{command as command_read};
 
 use crate::Ask;
@@ -67,6 +67,13 @@ pub fn is_usage(words: &[String]) -> bool
     asked(words).is_none()
 }
 
+/// Whether the words are `replay` alone.
+pub fn is_replay(words: &[String]) -> bool
+    ensures { IsTrue result ↔ (asked words.now ≡ Some Ask.Replay) }
+{
+    matches!(asked(words), Some(Ask::Replay))
+}
+
 // The command that reads three words by their places, and has no flag.
 fn command<'a>(alloc: Global) -> Result<Command<'a>, AllocError>
     ensures { IfOk result (λ command. app_of command ≡ command_read) }
@@ -96,7 +103,8 @@ fn asked_read(word: Option<&str>, seed: Option<&str>, count: Option<&str>) -> Op
 
 /// What the words ask for; None exactly where they break the rules of words. Fails only for want of memory.
 pub fn read(alloc: Global, words: &[String]) -> Result<Option<Ask>, AllocError>
-    ensures { IfOk result (λ ask. ask ≡ asked words.now) }
+    ensures asked { IfOk result (λ ask. ask ≡ asked words.now) }
+    ensures bounds { IfOk result (λ ask. IfSome ask IsInBounds) }
 {
     if is_usage(words) {
         return Ok(None);

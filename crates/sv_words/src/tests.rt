@@ -45,6 +45,8 @@ fn words_that_keep_the_rules_are_read(rt: HostRuntime) -> Result<(), Fail> {
             read_of(rt.alloc(), words)? == Some(ask),
             "the words keep the rules"
         );
+        let words = words_of(rt.alloc(), words)?;
+        assert_eq!(rt; is_replay(words.as_slice()), ask == Ask::Replay);
     }
     Ok(())
 }

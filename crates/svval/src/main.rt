@@ -1,4 +1,4 @@
-//! `svval check`: reads a trace from standard input and writes the answer to it to standard output.
+//! `svval`: checks the trace on standard input, or generates one, and writes to standard output.
 //! The program ends with the number of the run's status, 0 to 7.
 #![tactic(auto)]
 
@@ -7,6 +7,7 @@ use std::io::ErrorKind;
 use std::process::ExitCode;
 use sv_app::{Status, check_run};
 use sv_io::{StdSink, StdSource};
+use sv_words::is_replay;
 
 // The arguments after the program's name. One that is not text can only be wrong usage.
 fn words(rt: &HostRuntime) -> Result<Vec<String>, Status> {
@@ -17,11 +18,20 @@ fn words(rt: &HostRuntime) -> Result<Vec<String>, Status> {
     }
 }
 
-fn run(rt: &HostRuntime) -> Status {
+// The program does not replay yet.
+fn run_words(rt: &HostRuntime, words: &[String]) -> Status {
     let mut source = StdSource::new(rt.stdin());
     let mut sink = StdSink::new(rt.stdout());
+    if is_replay(words) {
+        Status::Usage
+    } else {
+        check_run(rt.alloc(), words, &mut source, &mut sink)
+    }
+}
+
+fn run(rt: &HostRuntime) -> Status {
     match words(rt) {
-        Ok(words) => check_run(rt.alloc(), words.as_slice(), &mut source, &mut sink),
+        Ok(words) => run_words(rt, words.as_slice()),
         Err(status) => status,
     }
 }
@@ -30,7 +40,7 @@ fn run(rt: &HostRuntime) -> Status {
 fn complaint(status: Status) -> Option<&'static str> {
     match status {
         Status::Clean | Status::Found | Status::Refused => None,
-        Status::Usage => Some("usage: svval check"),
+        Status::Usage => Some("usage: svval check|replay|gen SEED COUNT|bench SEED COUNT"),
         Status::ReadFault => Some("read fault"),
         Status::WriteFault => Some("write fault"),
         Status::Memory => Some("out of memory"),
