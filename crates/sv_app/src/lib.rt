@@ -4,6 +4,7 @@
 mod answer;
 mod asked;
 mod bench;
+mod delivery;
 mod run;
 mod status;
 mod validating;

@@ -1,6 +1,7 @@
 use super::*;
 use std::alloc::{AllocError, Global};
 use std::test::Fail;
+use sv_hub::{Audience, Hub, Listener, Tally};
 use sv_io::{MAX_TEXT, MemSink, MemSource};
 use sv_words::is_replay;
 
@@ -81,8 +82,11 @@ const ONE_OF_2: &str = "total events 2 reports 1 notes 0 held 0\n";
 
 const TWO_OF_2: &str = "total events 2 reports 2 notes 0 held 0\n";
 
-// More than any text of these tests is answered.
-const ROOM: usize = 4096;
+// More than what any of these runs writes.
+const ROOM: usize = 1048576;
+
+// No call has this number.
+const NEVER: u64 = u64::MAX;
 
 fn joined(alloc: Global, pieces: &[&str]) -> Result<Vec<u8>, AllocError> {
     let mut text = Vec::new(alloc);
@@ -100,25 +104,59 @@ fn words_of(alloc: Global, words: &[&str]) -> Result<Vec<String>, AllocError> {
     Ok(all)
 }
 
-// The number of the status, and what is written, of words that are not `replay`.
-fn ran(alloc: Global, words: &[&str], text: Vec<u8>) -> Result<(u8, Vec<u8>), AllocError> {
+// How a run ended, what it wrote, and how many reports its one listener heard.
+#[derive(Drop)]
+struct Run {
+    number: u8,
+    written: Vec<u8>,
+    heard: u64,
+}
+
+// Of words that are not `replay`, over a source and a sink whose calls with these numbers fail, and whose first calls
+// take 8 bytes.
+fn ran_with_faults(
+    alloc: Global,
+    words: &[&str],
+    text: Vec<u8>,
+    source_fails: u64,
+    sink_fails: u64,
+) -> Result<Run, AllocError> {
     let words = words_of(alloc, words)?;
-    let mut source = MemSource::new(text, Vec::new(alloc), Vec::new(alloc));
-    let mut sink = MemSink::new(alloc, ROOM, Vec::new(alloc), Vec::new(alloc))?;
+    let first = vec![in alloc; 8usize]?;
+    let mut source = MemSource::new(text, first, vec![in alloc; source_fails]?);
+    let first = vec![in alloc; 8usize]?;
+    let mut sink = MemSink::new(alloc, ROOM, first, vec![in alloc; sink_fails]?)?;
+    let tally: Box<dyn Listener> = Box::new(alloc, Tally::new(alloc))?;
+    let mut hub = Hub::new(alloc);
+    let Ok(id) = hub.attach(tally) else {
+        return Err(AllocError);
+    };
     if is_replay(words.as_slice()) {
         return Err(AllocError);
     }
-    let status = check_run(alloc, words.as_slice(), &mut source, &mut sink);
-    Ok((status.number(), sink.bytes().to_vec(alloc)?))
+    let status = check_run(alloc, words.as_slice(), &mut source, &mut sink, &mut hub);
+    let Some(tally) = hub.detach(id) else {
+        return Err(AllocError);
+    };
+    Ok(Run {
+        number: status.number(),
+        written: sink.bytes().to_vec(alloc)?,
+        heard: tally.count(),
+    })
+}
+
+fn ran(alloc: Global, words: &[&str], text: Vec<u8>) -> Result<Run, AllocError> {
+    ran_with_faults(alloc, words, text, NEVER, NEVER)
 }
 
 #[test]
 fn answers_texts(rt: HostRuntime) -> Result<(), Fail> {
-    let table: [(&[&str], u8, &[&str]); 12] = [
+    let table: [(&[&str], u8, &[&str], u64); 12] = [
         (
             WRITE_THEN_READ,
             1,
             &[PUBLISHED, SUBMITTED, READS_AT_1, AFTER_THE_WRITE, ONE_OF_2],
+            1,
         ),
         (
             &[
@@ -146,13 +184,15 @@ fn answers_texts(rt: HostRuntime) -> Result<(), Fail> {
                 AFTER_THE_BLIT,
                 TWO_OF_2,
             ],
+            2,
         ),
-        (&[], 0, &[NOTHING]),
-        (&["{\"op\":\"que"], 2, &["line 1 refused 1 BadJson\n"]),
+        (&[], 0, &[NOTHING], 0),
+        (&["{\"op\":\"que"], 2, &["line 1 refused 1 BadJson\n"], 0),
         (
             &[QUEUE, BUFFER, BEGIN, WORK, COPY_WRITES, WORK, COPY_READS],
             2,
             &["line 6 refused 15 Unfinished\n"],
+            0,
         ),
         (
             &[
@@ -170,6 +210,7 @@ fn answers_texts(rt: HostRuntime) -> Result<(), Fail> {
             ],
             0,
             &[PUBLISHED, SUBMITTED, NONE_OF_2],
+            0,
         ),
         (
             &[
@@ -187,6 +228,7 @@ fn answers_texts(rt: HostRuntime) -> Result<(), Fail> {
             ],
             1,
             &[PUBLISHED, SUBMITTED, READS_AT_2, AFTER_THE_WRITE, ONE_OF_2],
+            1,
         ),
         (
             &[
@@ -204,8 +246,9 @@ fn answers_texts(rt: HostRuntime) -> Result<(), Fail> {
             ],
             0,
             &[PUBLISHED, SUBMITTED, NONE_OF_2],
+            0,
         ),
-        (&["[]"], 2, &["line 1 refused 2 BadShape\n"]),
+        (&["[]"], 2, &["line 1 refused 2 BadShape\n"], 0),
         (
             &[FENCE, WAIT_FENCE],
             1,
@@ -214,24 +257,28 @@ fn answers_texts(rt: HostRuntime) -> Result<(), Fail> {
                 "held lane 0 call 0\n",
                 "total events 1 reports 0 notes 0 held 1\n",
             ],
+            0,
         ),
         (
             &[QUEUE, IMAGE, BEGIN, IMAGE_READ, END, SUBMIT],
             1,
             &[PUBLISHED, SUBMITTED, UNDEFINED_FOUND, ONE_NOTE_OF_2],
+            0,
         ),
         (
             &[QUEUE, BUFFER, BUFFER],
             2,
             &["line 3 refused 6 DeclaredTwice\n"],
+            0,
         ),
     ];
-    for (text, number, written) in table {
+    for (text, number, written, heard) in table {
         let text = joined(rt.alloc(), text)?;
         let written = joined(rt.alloc(), written)?;
-        let answer = ran(rt.alloc(), &["check"], text)?;
-        assert_eq!(rt; answer.0, number);
-        assert_eq!(rt; answer.1.as_slice(), written.as_slice());
+        let run = ran(rt.alloc(), &["check"], text)?;
+        assert_eq!(rt; run.number, number);
+        assert_eq!(rt; run.written.as_slice(), written.as_slice());
+        assert_eq!(rt; run.heard, heard);
     }
     Ok(())
 }
@@ -253,49 +300,65 @@ fn answers_words(rt: HostRuntime) -> Result<(), Fail> {
         (&["gen", "0", "0"], 3, ""),
     ];
     for (words, number, written) in table {
-        let answer = ran(rt.alloc(), words, Vec::new(rt.alloc()))?;
-        assert_eq!(rt; answer.0, number);
-        assert_eq!(rt; answer.1.as_slice(), written.as_bytes());
+        let run = ran(rt.alloc(), words, Vec::new(rt.alloc()))?;
+        assert_eq!(rt; run.number, number);
+        assert_eq!(rt; run.written.as_slice(), written.as_bytes());
+        assert_eq!(rt; run.heard, 0);
     }
     Ok(())
 }
 
 #[test]
+fn bench_counts_what_check_prints(rt: HostRuntime) -> Result<(), Fail> {
+    let made = ran(rt.alloc(), &["gen", "0", "1000"], Vec::new(rt.alloc()))?;
+    assert_eq!(rt; made.number, 0);
+    let checked = ran(rt.alloc(), &["check"], made.written)?;
+    let benched = ran(rt.alloc(), &["bench", "0", "1000"], Vec::new(rt.alloc()))?;
+    let reports = checked.heard;
+    let mut total = String::new(rt.alloc());
+    write!(
+        total,
+        "\ntotal events 20 reports {reports} notes 0 held 0\n"
+    )?;
+    let mut line = String::new(rt.alloc());
+    write!(
+        line,
+        "bench seed 0 count 1000 events 20 reports {reports} notes 0 held 0\n"
+    )?;
+    assert!(rt; checked.written.as_slice().ends_with(total.as_bytes()));
+    assert_eq!(rt; benched.written.as_slice(), line.as_bytes());
+    assert_eq!(rt; benched.number, checked.number);
+    assert_eq!(rt; benched.heard, 0);
+    Ok(())
+}
+
+#[test]
 fn stops_at_faults(rt: HostRuntime) -> Result<(), Fail> {
-    // The calls that fail, of the source and of the sink, whose first calls take 8 bytes.
-    let table: [(&[&str], u64, u64, u8, &str); 4] = [
-        (&["check"], 1, 9, 4, ""),
-        (&["check"], 9, 0, 5, ""),
-        (&["check"], 9, 1, 5, "event 0 "),
-        (&["gen", "0", "1"], 0, 1, 5, "{\"op\":\"q"),
+    // The calls that fail, of the source and of the sink. Reports are heard before the first write.
+    let table: [(&[&str], u64, u64, u8, &str, u64); 4] = [
+        (&["check"], 1, NEVER, 4, "", 0),
+        (&["check"], NEVER, 0, 5, "", 1),
+        (&["check"], NEVER, 1, 5, "event 0 ", 1),
+        (&["gen", "0", "1"], 0, 1, 5, "{\"op\":\"q", 0),
     ];
-    for (words, source_fails, sink_fails, number, written) in table {
-        let words = words_of(rt.alloc(), words)?;
+    for (words, source_fails, sink_fails, number, written, heard) in table {
         let text = joined(rt.alloc(), WRITE_THEN_READ)?;
-        let pieces = vec![in rt.alloc(); 8usize]?;
-        let fails = vec![in rt.alloc(); source_fails]?;
-        let mut source = MemSource::new(text, pieces, fails);
-        let pieces = vec![in rt.alloc(); 8usize]?;
-        let fails = vec![in rt.alloc(); sink_fails]?;
-        let mut sink = MemSink::new(rt.alloc(), ROOM, pieces, fails)?;
-        assert!(rt; !is_replay(words.as_slice()));
-        let status = check_run(rt.alloc(), words.as_slice(), &mut source, &mut sink);
-        assert_eq!(rt; status.number(), number);
-        assert_eq!(rt; sink.bytes(), written.as_bytes());
+        let run = ran_with_faults(rt.alloc(), words, text, source_fails, sink_fails)?;
+        assert_eq!(rt; run.number, number);
+        assert_eq!(rt; run.written.as_slice(), written.as_bytes());
+        assert_eq!(rt; run.heard, heard);
     }
     Ok(())
 }
 
 #[test]
 fn reads_up_to_the_limit(rt: HostRuntime) -> Result<(), Fail> {
-    let spaces = vec![in rt.alloc(); b' '; MAX_TEXT + 1]?;
-    let answer = ran(rt.alloc(), &["check"], spaces)?;
-    assert_eq!(rt; answer.0, 7);
-    assert!(rt; answer.1.is_empty());
-
-    let spaces = vec![in rt.alloc(); b' '; MAX_TEXT]?;
-    let answer = ran(rt.alloc(), &["check"], spaces)?;
-    assert_eq!(rt; answer.0, 0);
-    assert_eq!(rt; answer.1.as_slice(), NOTHING.as_bytes());
+    let table = [(MAX_TEXT + 1, 7u8, ""), (MAX_TEXT, 0, NOTHING)];
+    for (length, number, written) in table {
+        let spaces = vec![in rt.alloc(); b' '; length]?;
+        let run = ran(rt.alloc(), &["check"], spaces)?;
+        assert_eq!(rt; run.number, number);
+        assert_eq!(rt; run.written.as_slice(), written.as_bytes());
+    }
     Ok(())
 }

@@ -2,10 +2,12 @@
 //! The program ends with the number of the run's status, 0 to 7.
 #![tactic(auto)]
 
+use std::alloc::AllocError;
 use std::env;
 use std::io::ErrorKind;
 use std::process::ExitCode;
 use sv_app::{Status, check_run};
+use sv_hub::{Hub, Listener, Tally};
 use sv_io::{StdSink, StdSource};
 use sv_words::is_replay;
 
@@ -18,20 +20,24 @@ fn words(rt: &HostRuntime) -> Result<Vec<String>, Status> {
     }
 }
 
-// The program does not replay yet.
-fn run_words(rt: &HostRuntime, words: &[String]) -> Status {
+// The reports are heard by one tally. The program does not replay yet.
+fn run_words(rt: &HostRuntime, words: &[String]) -> Result<Status, AllocError> {
     let mut source = StdSource::new(rt.stdin());
     let mut sink = StdSink::new(rt.stdout());
-    if is_replay(words) {
-        Status::Usage
-    } else {
-        check_run(rt.alloc(), words, &mut source, &mut sink)
+    let mut hub = Hub::new(rt.alloc());
+    let tally: Box<dyn Listener> = Box::new(rt.alloc(), Tally::new(rt.alloc()))?;
+    if hub.attach(tally).is_err() {
+        return Err(AllocError);
     }
+    if is_replay(words) {
+        return Ok(Status::Usage);
+    }
+    Ok(check_run(rt.alloc(), words, &mut source, &mut sink, &mut hub))
 }
 
 fn run(rt: &HostRuntime) -> Status {
     match words(rt) {
-        Ok(words) => run_words(rt, words.as_slice()),
+        Ok(words) => run_words(rt, words.as_slice()).unwrap_or(Status::Memory),
         Err(status) => status,
     }
 }
