@@ -420,6 +420,26 @@ def rendering_then_resolve(right):
     return trace
 
 
+@pattern
+def resolve_attachment_then_sampled(right):
+    trace, queue = one_queue()
+    samples, image = trace.image(), trace.image()
+    rec = trace.begin(recorder=0, family=0)
+    rec.barrier(*(image_barrier("", "", "color_attachment_output", COLOR_ACCESS, each, "undefined", COLOR)
+                  for each in (samples, image)))
+    rec.begin_rendering(attachment(samples, "color", COLOR, "clear", "dont_care"))
+    rec.work(on_cells(samples, "color_attachment_output", COLOR_WRITE, COLOR))
+    # The resolve at the end of the rendering.
+    rec.work(on_cells(samples, "color_attachment_output", "color_attachment_read", COLOR),
+             on_cells(image, "color_attachment_output", COLOR_WRITE, COLOR))
+    rec.end_rendering()
+    src = ("color_attachment_output", COLOR_WRITE) if right else ("resolve", "transfer_write")
+    rec.barrier(image_barrier(*src, "fragment_shader", "shader_sampled_read", image, COLOR, SAMPLED))
+    draw(rec, on_cells(image, "fragment_shader", "shader_sampled_read", SAMPLED))
+    submit_one(trace, queue, rec)
+    return trace
+
+
 # Render passes
 
 

@@ -300,6 +300,15 @@ class Shown(unittest.TestCase):
         check_bytes(written)
         self.assertEqual(written.count(b'"op":"work"'), 2)
 
+    def test_the_rattle_code_of_the_guide_is_that_of_tests(self):
+        shown = re.findall(r"^```rust\n(.*?)^```", (ROOT / "docs/GUIDE.md").read_text(), re.M | re.S)
+        self.assertEqual(len(shown), 2)
+        for code, crate in zip(shown, ("sv_app", "sv_hub")):
+            tests = (ROOT / "crates" / crate / "src" / "tests.rt").read_text()
+            with self.subTest(crate):
+                self.assertIn("\n".join(line.strip() for line in code.splitlines()),
+                              "\n".join(line.strip() for line in tests.splitlines()))
+
     def test_links_lead_somewhere(self):
         pages = [ROOT / "README.md", *ROOT.glob("docs/*.md"), *ROOT.glob("examples/**/README.md")]
         for page in pages:
