@@ -53,13 +53,23 @@ pub record IsRefusalLine (refusal : Refusal) (status : Status) (text : List ℕ)
   pub has_text : text ≡ refusal_line refusal
   pub has_reports : reports ≡ []
 
--- what is written for an outcome, and the status: the text of the trace, which is lawful, in the order of its lines, or
--- the line of the refusal
-abbrev pub IsAnswerOf : Result Trace Refusal → Status → List ℕ → List Report → Type 0
-IsAnswerOf (Err refusal) status text reports = IsRefusalLine refusal status text reports
-IsAnswerOf (Ok t) status text reports = IsLawful t × IsTextOf t t.text_order status text reports
+-- the text of a trace in the order of its lines
+abbrev pub InTextOrder : Trace → Status → List ℕ → List Report → Type 0
+InTextOrder t status text reports = IsTextOf t t.text_order status text reports
 
--- the text is the answer to these bytes, with this status, and these are the reports in it
-abbrev pub IsAnswerTo : List ℕ → Status → List ℕ → List Report → Type 0
-IsAnswerTo bytes status text reports = (outcome : Result Trace Refusal) × IsOutcomeOf bytes outcome
-    × IsAnswerOf outcome status text reports
+-- the text of a trace in some whole history of it, which is the one that the event lines name
+abbrev pub InSomeOrder : Trace → Status → List ℕ → List Report → Type 0
+InSomeOrder t status text reports = (history : List Mark) × IsTextOf t history status text reports
+
+-- what is written for an outcome, and the status: the text of the trace, which is lawful, in that order, or
+-- the line of the refusal
+abbrev pub IsAnswerOf : (Trace → Status → List ℕ → List Report → Type 0) → Result Trace Refusal
+    → Status → List ℕ → List Report → Type 0
+IsAnswerOf InOrder (Err refusal) status text reports = IsRefusalLine refusal status text reports
+IsAnswerOf InOrder (Ok t) status text reports = IsLawful t × InOrder t status text reports
+
+-- the text is the answer to these bytes in that order, with this status, and these are the reports in it
+abbrev pub IsAnswerTo : (Trace → Status → List ℕ → List Report → Type 0) → List ℕ
+    → Status → List ℕ → List Report → Type 0
+IsAnswerTo InOrder bytes status text reports = (outcome : Result Trace Refusal) × IsOutcomeOf bytes outcome
+    × IsAnswerOf InOrder outcome status text reports

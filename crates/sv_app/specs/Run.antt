@@ -2,7 +2,7 @@
 use Rattle.std.specs.Prelude.{◌≡◌, ℕ, ◌+◌, ◌≤◌, Bool, true, List, Option, Some, IfSome, length, take, ⊤}
 use Rattle.std.specs.Io.KnownBytes.{Appends, IsAtEnd}
 use Rattle.sv_words.specs.declared.ask.Ask.{Ask}
-use Rattle.sv_words.specs.declared.ask.Ask.TheVariants.{Check}
+use Rattle.sv_words.specs.declared.ask.Ask.TheVariants.{Check, Replay}
 use Rattle.sv_app.specs.declared.status.Status.{Status}
 use Rattle.sv_app.specs.declared.status.Status.TheVariants.{Clean, Found, Refused, Usage, ReadFault, WriteFault, Memory, TooLong}
 
@@ -47,9 +47,10 @@ pub record GaveAll {S : Type 0} (left_of : S → Option (List ℕ)) (given_by : 
   pub given : given_by new ≡ given_by old + length bytes
   pub ended : is_at_end new ≡ true
 
--- `check` asks about the bytes of the source, and what else is asked for reads nothing
+-- `check` and `replay` ask about the bytes of the source, and what else is asked for reads nothing
 abbrev pub IsInput : {S : Type 0} → (S → Option (List ℕ)) → (S → ℕ) → (S → Bool) → Option Ask → (bytes : List ℕ) (old new : S) → Type 0
 IsInput left_of given_by is_at_end (Some Check) bytes old new = GaveAll left_of given_by is_at_end bytes old new
+IsInput left_of given_by is_at_end (Some Replay) bytes old new = GaveAll left_of given_by is_at_end bytes old new
 IsInput left_of given_by is_at_end other bytes old new = new ≡ old
 
 -- a first part of the text, maybe all of it, was written

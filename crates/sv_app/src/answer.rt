@@ -3,7 +3,7 @@ ghost use Rattle.std.specs.Prelude.{◌≡◌, IfOk};
 ghost use Rattle.std.specs.List.{list_all};
 ghost use Rattle.sv_model.specs.History.{IsWhole};
 ghost use Rattle.sv_model.specs.Lawful.{IsLawful};
-ghost use Rattle.sv_app.specs.Answer.{IsAnswerTo, IsRefusalLine, IsTextOf, is_silent, printed_reports, status_of};
+ghost use Rattle.sv_app.specs.Answer.{InTextOrder, IsAnswerTo, IsRefusalLine, IsTextOf, is_silent, printed_reports, status_of};
 
 use crate::Status;
 use crate::validating::validate;
@@ -106,7 +106,7 @@ pub fn refusal_answer(alloc: Global, refusal: &Refusal) -> Result<Answer, AllocE
 
 /// The answer to the bytes of a text.
 pub fn text_answer(alloc: Global, bytes: &[u8]) -> Result<Answer, AllocError>
-    ensures { IfOk result (λ it. IsAnswerTo bytes.now it.status it.text it.reports) }
+    ensures { IfOk result (λ it. IsAnswerTo InTextOrder bytes.now it.status it.text it.reports) }
 {
     match read_text(alloc, bytes) {
         Ok(trace) => trace_answer(alloc, &trace),

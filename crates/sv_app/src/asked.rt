@@ -15,18 +15,18 @@ use sv_io::{MAX_TEXT, ReadStop, Source, read_all};
 use sv_range::List;
 use sv_words::Ask;
 
-/// The bytes that are asked about: all of the source for `check`. Nothing else reads.
+/// The bytes that are asked about: all of the source for `check` and `replay`. Nothing else reads.
 pub fn input<S: Source>(alloc: Global, ask: Ask, source: &mut S) -> Result<Vec<u8>, ReadStop>
     ensures input { IfOk result (λ v. IsInput S.left S.given S.ended (Some ask) v.items source.old source.new) }
-    ensures unread { ask ≢ Ask.Check → source.new ≡ source.old }
+    ensures unread { ask ≢ Ask.Check → ask ≢ Ask.Replay → source.new ≡ source.old }
     ensures failed { IsErrOf result ReadStop.Failed → Rose (S.faults source.old) (S.faults source.new) }
     ensures no_fault { result ≢ Err ReadStop.Failed → S.faults source.new ≡ S.faults source.old }
     ensures too_long { IsErrOf result ReadStop.TooLong ↔ (S.given source.old + MAX_TEXT < S.given source.new) }
     ensures limit { result ≢ Err ReadStop.TooLong → S.given source.new ≤ S.given source.old + MAX_TEXT }
 {
     match ask {
-        Ask::Check => read_all(alloc, source),
-        Ask::Replay | Ask::Generate { .. } | Ask::Bench { .. } => Ok(Vec::new(alloc)),
+        Ask::Check | Ask::Replay => read_all(alloc, source),
+        Ask::Generate { .. } | Ask::Bench { .. } => Ok(Vec::new(alloc)),
     }
 }
 

@@ -4,12 +4,15 @@
 mod answer;
 mod asked;
 mod bench;
+mod checking;
 mod delivery;
-mod run;
+mod replaying;
+mod runs;
 mod status;
 mod validating;
 
-pub use run::check_run;
+pub use checking::check_run;
+pub use runs::run;
 pub use status::Status;
 
 #[cfg(test)]

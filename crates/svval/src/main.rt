@@ -1,15 +1,16 @@
-//! `svval`: checks the trace on standard input, or generates one, and writes to standard output.
+//! `svval`: checks or replays the trace on standard input, or generates one, and writes to standard output.
 //! The program ends with the number of the run's status, 0 to 7.
 #![tactic(auto)]
 
-use std::alloc::AllocError;
+use std::alloc::{AllocError, Global};
 use std::env;
 use std::io::ErrorKind;
 use std::process::ExitCode;
-use sv_app::{Status, check_run};
+use std::sync::Wait;
+use std::thread::Threads;
+use sv_app::{Status, run};
 use sv_hub::{Hub, Listener, Tally};
-use sv_io::{StdSink, StdSource};
-use sv_words::is_replay;
+use sv_io::{Idle, Sink, Source, StdSink, StdSource};
 
 // The arguments after the program's name. One that is not text can only be wrong usage.
 fn words(rt: &HostRuntime) -> Result<Vec<String>, Status> {
@@ -20,26 +21,20 @@ fn words(rt: &HostRuntime) -> Result<Vec<String>, Status> {
     }
 }
 
-// The reports are heard by one tally. The program does not replay yet.
-fn run_words(rt: &HostRuntime, words: &[String]) -> Result<Status, AllocError> {
-    let mut source = StdSource::new(rt.stdin());
-    let mut sink = StdSink::new(rt.stdout());
-    let mut hub = Hub::new(rt.alloc());
-    let tally: Box<dyn Listener> = Box::new(rt.alloc(), Tally::new(rt.alloc()))?;
+// The reports are heard by one tally, and a replay is not held up between its events.
+fn run_words<S: Source, K: Sink, R: Threads + Wait + Sync>(
+    rt: &R,
+    alloc: Global,
+    words: &[String],
+    source: &mut S,
+    sink: &mut K,
+) -> Result<Status, AllocError> {
+    let mut hub = Hub::new(alloc);
+    let tally: Box<dyn Listener> = Box::new(alloc, Tally::new(alloc))?;
     if hub.attach(tally).is_err() {
         return Err(AllocError);
     }
-    if is_replay(words) {
-        return Ok(Status::Usage);
-    }
-    Ok(check_run(rt.alloc(), words, &mut source, &mut sink, &mut hub))
-}
-
-fn run(rt: &HostRuntime) -> Status {
-    match words(rt) {
-        Ok(words) => run_words(rt, words.as_slice()).unwrap_or(Status::Memory),
-        Err(status) => status,
-    }
+    Ok(run(rt, alloc, words, source, sink, &Idle, &mut hub))
 }
 
 // What standard error is told of a run that did not write its whole answer.
@@ -55,7 +50,15 @@ fn complaint(status: Status) -> Option<&'static str> {
 }
 
 fn main(rt: HostRuntime) -> ExitCode {
-    let status = run(&rt);
+    let mut source = StdSource::new(rt.stdin());
+    let mut sink = StdSink::new(rt.stdout());
+    let status = match words(&rt) {
+        Ok(words) => {
+            let ran = run_words(&rt, rt.alloc(), words.as_slice(), &mut source, &mut sink);
+            ran.unwrap_or(Status::Memory)
+        }
+        Err(status) => status,
+    };
     if let Some(text) = complaint(status) {
         // Where standard error takes nothing, the status still tells.
         let _ = rt.eprintln(text);

@@ -1,4 +1,4 @@
-// A run: from a source to a sink.
+// A run that waits for nobody: from a source to a sink.
 ghost use Rattle.std.specs.Prelude.{◌≡◌, ◌≢◌, ℕ, ◌+◌, ◌<◌, ◌↔◌, ◌≤◌, List, [], Some, None};
 ghost use Rattle.std.specs.Io.KnownBytes.{Appends};
 ghost use Rattle.sv_hub.specs.Attachments.{HasHeard};
@@ -16,16 +16,18 @@ use sv_hub::{Audience, Hub};
 use sv_io::{MAX_TEXT, ReadStop, Sink, Source};
 use sv_words::{Ask, is_usage, read};
 
-/// Does what the words ask for, which are the program's arguments and not `replay`: `check` reads the source to its end
-/// and writes the answer to what it gave; `gen` writes a generated trace, and `bench` one line on it.
+/// Does what the words ask for, which are the program's arguments and not `replay`: `check` reads the
+/// source to its end and writes the answer to what it gave; `gen` writes a generated trace, and `bench`
+/// one line on it.
 ///
-/// `Clean`, `Found` and `Refused` say that the whole answer was written. The other statuses: `Usage` where the words
-/// break the rules of words, `ReadFault` and `WriteFault` at the first fault, `TooLong` where the text has more than
-/// [`MAX_TEXT`] bytes, and `Memory` for want of memory. At a write fault a first part of the answer is written, and
-/// at the others nothing.
+/// `Clean`, `Found` and `Refused` say that the whole answer was written. The other statuses: `Usage` where
+/// the words break the rules of words, `ReadFault` and `WriteFault` at the first fault, `TooLong` where
+/// the text has more than [`MAX_TEXT`] bytes, and `Memory` for want of memory. At a write fault a first
+/// part of the answer is written, and at the others nothing.
 ///
-/// The listeners of the hub hear the reports that `check` prints, in the order of the text and before the first write.
-/// They hear nothing of a trace that is refused, of `gen` and `bench`, and with a status that writes nothing.
+/// The listeners of the hub hear the reports that `check` prints, in the order of the text and before the
+/// first write. They hear nothing of a trace that is refused, of `gen` and `bench`, and with a status that
+/// writes nothing.
 pub fn check_run<S: Source, K: Sink>(
     alloc: Global,
     words: &[String],
@@ -55,7 +57,8 @@ pub fn check_run<S: Source, K: Sink>(
     ensures no_read_fault { result ≢ Status.ReadFault → S.faults source.new ≡ S.faults source.old }
     ensures too_long { (result ≡ Status.TooLong) ↔ (S.given source.old + MAX_TEXT < S.given source.new) }
     ensures usage { (result ≡ Status.Usage) ↔ (asked words.now ≡ None) }
-    ensures unread { asked words.now ≢ Some Ask.Check → source.new ≡ source.old }
+    ensures unread { asked words.now ≢ Some Ask.Check → asked words.now ≢ Some Ask.Replay
+        → source.new ≡ source.old }
     ensures silent { IsSilent result → sink.new ≡ sink.old }
     ensures unheard { IsSilent result
         → HasHeard []

@@ -3,7 +3,7 @@ use Rattle.sv_words.specs.Words.{asked}
 use Rattle.sv_words.specs.declared.ask.Ask.{Ask}
 use Rattle.sv_app.specs.Asked.{IsAnswerToAsk}
 use Rattle.sv_app.specs.Run.{IsInput}
-use Rattle.sv_app.proofs.run.check_run.Goals as goal
+use Rattle.sv_app.proofs.checking.check_run.Goals as goal
 
 pub returns-clause-write_fault : goal.returns-clause-write_fault
 returns-clause-write_fault g c = λ _.

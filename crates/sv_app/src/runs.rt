@@ -1,0 +1,92 @@
+// A run of the program, which may start threads and wait.
+ghost use Rattle.std.specs.Prelude.{◌≡◌, ◌≢◌, ℕ, ◌+◌, ◌<◌, ◌↔◌, ◌≤◌, List, [], Some, None};
+ghost use Rattle.std.specs.Io.KnownBytes.{Appends};
+ghost use Rattle.sv_hub.specs.Attachments.{HasHeard};
+ghost use Rattle.sv_io.specs.Causes.{Rose};
+ghost use Rattle.sv_model.specs.declared.work.Report.{Report};
+ghost use Rattle.sv_words.specs.Words.{asked};
+ghost use Rattle.sv_app.specs.Asked.{IsAnswerToAsk};
+ghost use Rattle.sv_app.specs.Run.{IsAnswered, IsAnsweredOrMemory, IsSilent, IsInput, AppendsPart};
+
+use crate::Status;
+use crate::asked::input;
+use crate::checking::check_run;
+use crate::delivery::{WriteStop, deliver};
+use crate::replaying::replayed_answer;
+use std::alloc::Global;
+use std::sync::Wait;
+use std::thread::Threads;
+use sv_hub::{Audience, Hub};
+use sv_io::{MAX_TEXT, Pace, ReadStop, Sink, Source};
+use sv_words::{Ask, is_replay};
+
+/// Does what the words ask for, which are the program's arguments: `replay` reads the source to its end
+/// and writes the answer to what it gave, in a whole history of the trace, which its lanes and recorders
+/// made. Each of them runs in a thread of its own where threads can be made, takes the device lock for
+/// each of its events, and calls `pace` before it. The other words are those of [`check_run`], and the
+/// statuses are its.
+///
+/// The listeners of the hub hear the reports that `check` and `replay` print, in the order of the text and
+/// before the first write. They hear nothing of a trace that is refused, of `gen` and `bench`, and with a
+/// status that writes nothing.
+///
+/// May wait: what is promised holds if it returns.
+pub fn run<S: Source, K: Sink, P: Pace + Sync, R: Threads + Wait + Sync>(
+    rt: &R,
+    alloc: Global,
+    words: &[String],
+    source: &mut S,
+    sink: &mut K,
+    pace: &P,
+    hub: &mut Hub,
+) -> Status
+    ensures answered { IsAnswered result → (bytes : List ℕ) × (text : List ℕ) × (reports : List Report)
+        × IsInput S.left S.given S.ended (asked words.now) bytes source.old source.new
+        × IsAnswerToAsk (asked words.now) bytes result text reports
+        × Appends (K.written sink.old) (K.written sink.new) text
+        × HasHeard reports
+        (⟦<Hub as Audience>⟧.attachments hub.old)
+        (⟦<Hub as Audience>⟧.attachments hub.new) }
+    ensures write_fault { result ≡ Status.WriteFault
+        → (bytes : List ℕ) × (status : Status) × (text : List ℕ) × (reports : List Report)
+        × IsInput S.left S.given S.ended (asked words.now) bytes source.old source.new
+        × IsAnswerToAsk (asked words.now) bytes status text reports
+        × AppendsPart (K.written sink.old) (K.written sink.new) text
+        × Rose (K.faults sink.old) (K.faults sink.new)
+        × HasHeard reports
+        (⟦<Hub as Audience>⟧.attachments hub.old)
+        (⟦<Hub as Audience>⟧.attachments hub.new) }
+    ensures no_write_fault { result ≢ Status.WriteFault → K.faults sink.new ≡ K.faults sink.old }
+    ensures read_fault { result ≡ Status.ReadFault → Rose (S.faults source.old) (S.faults source.new) }
+    ensures no_read_fault { result ≢ Status.ReadFault → S.faults source.new ≡ S.faults source.old }
+    ensures too_long { (result ≡ Status.TooLong) ↔ (S.given source.old + MAX_TEXT < S.given source.new) }
+    ensures usage { (result ≡ Status.Usage) ↔ (asked words.now ≡ None) }
+    ensures unread { asked words.now ≢ Some Ask.Check → asked words.now ≢ Some Ask.Replay
+        → source.new ≡ source.old }
+    ensures silent { IsSilent result → sink.new ≡ sink.old }
+    ensures unheard { IsSilent result
+        → HasHeard []
+        (⟦<Hub as Audience>⟧.attachments hub.old)
+        (⟦<Hub as Audience>⟧.attachments hub.new) }
+    ensures complete { asked words.now ≢ None → S.given source.new ≤ S.given source.old + MAX_TEXT
+        → ¬ Rose (S.faults source.old) (S.faults source.new) → ¬ Rose (K.faults sink.old) (K.faults sink.new)
+        → IsAnsweredOrMemory result }
+{
+    if !is_replay(words) {
+        return check_run(alloc, words, source, sink, hub);
+    }
+    let bytes = match input(alloc, Ask::Replay, source) {
+        Ok(bytes) => bytes,
+        Err(ReadStop::Failed) => return Status::ReadFault,
+        Err(ReadStop::TooLong) => return Status::TooLong,
+        Err(ReadStop::Memory) => return Status::Memory,
+    };
+    let Ok(answer) = replayed_answer(rt, alloc, bytes.as_slice(), pace) else {
+        return Status::Memory;
+    };
+    match deliver(sink, hub, &answer) {
+        Ok(()) => answer.status,
+        Err(WriteStop::Memory) => Status::Memory,
+        Err(WriteStop::Failed) => Status::WriteFault,
+    }
+}

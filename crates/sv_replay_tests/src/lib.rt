@@ -1,0 +1,12 @@
+//! Tests of whole runs of the word `replay`: what threads that run beside each other bring about, and what no
+//! clause says.
+#![tactic(auto)]
+
+#[cfg(test)]
+mod crowd;
+#[cfg(test)]
+mod orders;
+#[cfg(test)]
+mod texts;
+#[cfg(test)]
+mod whole_run;
