@@ -17,7 +17,8 @@ HERE = pathlib.Path(__file__).parent
 
 def plain_blocks(text):
     """The fenced blocks that name no language."""
-    return [block for language, block in re.findall(r"^```(\w*)\n(.*?)^```$", text, re.M | re.S) if not language]
+    blocks = re.findall(r"^```(\w*)\n(.*?)^```$", text, re.M | re.S)
+    return [block for language, block in blocks if not language]
 
 
 def pairs(name):

@@ -1,9 +1,10 @@
 #!/usr/bin/env python3
 """Each file of definitions stands in DEFINITIONS.md, and each file of lemmas in PROOFS.md.
 
-A heading that names crates (`sv_model`) is followed by the names of their files. A list item that begins with a
-name in capitals (- `Chain`: ..) names a file. Says which files are missing from the pages, and which names are of
-no file, and ends with 1 where there are some. Files of single functions, which stand in folders, are not asked for.
+A heading that names crates (`sv_model`) is followed by the names of their files. A list item that begins
+with a name in capitals (- `Reports`: ..) names a file. Says which files are missing from the pages, and
+which names are of no file, and ends with 1 where there are some. Files of single functions, which stand in
+folders, are not asked for.
 """
 
 import pathlib

@@ -1,11 +1,12 @@
 #!/usr/bin/env python3
 """Compares ARCHITECTURE.md with crates.txt, and writes its table of all crates.
 
-The table stands between two comments of the page. Its rows have the order of crates.txt: what a crate keeps is
-the first paragraph of the head of its lib.rt or main.rt, the rest is read from crates.txt and from the folders.
+The table stands between two comments of the page. Its rows have the order of crates.txt: what a crate keeps
+is the first paragraph of the head of its lib.rt or main.rt, the rest is read from crates.txt and from the
+folders. The second paragraph of a head is a list: what the crate knows, its definitions, and who uses it.
 
     crate-table.py            writes the table
-    crate-table.py --check    says where page and crates.txt differ; status 1 where they do
+    crate-table.py --check    says where page, heads and crates.txt differ; status 1 where they do
 """
 import pathlib
 import re
@@ -14,7 +15,7 @@ import sys
 ROOT = pathlib.Path(__file__).resolve().parent.parent
 PAGE = ROOT / "docs" / "ARCHITECTURE.md"
 BEGIN, END = "<!-- docs/crate-table.py writes this table -->\n", "<!-- end of the table -->\n"
-BELOW = {("sv_check", "sv_pass")}  # who stands on a crate of a later layer
+BELOW = {("sv_lines", "sv_pass")}  # who stands on a crate of a later layer
 BASE = {"sv_mask", "sv_range"}  # left out of the page where a crate stands on sv_model
 
 
@@ -55,14 +56,14 @@ def root_file(name):
     return next(path for path in (source / "lib.rt", source / "main.rt") if path.is_file())
 
 
-def keeps(name):
-    """The first paragraph of a crate's head."""
-    words = []
+def head(name):
+    """The paragraphs of the head of a crate's root file, each as one line."""
+    lines = []
     for line in root_file(name).read_text().splitlines():
-        if not line.startswith("//! "):
+        if not line.startswith("//!"):
             break
-        words.append(line[4:])
-    return " ".join(words)
+        lines.append(line[3:].strip())
+    return [part.replace("\n", " ") for part in "\n".join(lines).split("\n\n")]
 
 
 def specs(name):
@@ -79,8 +80,27 @@ def table(layers, needs):
     for name in (name for layer in layers for name in layer):
         users = [user for user in needs if name in low[user]]
         count = len(specs(name)) or ""
-        rows.append(f"| `{name}` | {keeps(name)} | {quoted(low[name])} | {count} | {quoted(users)} |")
+        rows.append(f"| `{name}` | {head(name)[0]} | {quoted(low[name])} | {count} | {quoted(users)} |")
     return "".join(f"{row}\n" for row in rows)
+
+
+def users_told(name, users):
+    """What stands in a crate's head of its users, but for those that only test or compute."""
+    why = {"tests": "it only tests", "examples": "it only computes"}
+    told = [user for user in users if not user.endswith(("_tests", "_examples"))]
+    told = quoted(told) if len(told) <= 4 else "every layer behind it"
+    return told or f"nothing: {why.get(name.split('_')[-1], 'it is the program')}"
+
+
+def wrong_heads(needs):
+    low = {name: nearest(name, needs) for name in needs}
+    for name in needs:
+        parts = re.fullmatch(r"- knows .+ - definitions: .+ - used by (.+)", " ".join(head(name)[1:2]))
+        owed = users_told(name, [user for user in needs if name in low[user]])
+        if not parts:
+            yield f"{name}: the head does not say what it knows, its definitions and who uses it"
+        elif parts[1] != owed:
+            yield f"{name}: the head is owed: used by {owed}"
 
 
 def section(text, title):
@@ -136,7 +156,7 @@ def main(words):
     if words != ["--check"]:
         PAGE.write_text(made)
         return 0
-    found = list(differences(text, layers, needs))
+    found = [*differences(text, layers, needs), *wrong_heads(needs)]
     if made != text:
         found.append("the table of all crates is not the one that would be written")
     print("\n".join(found) or f"{len(needs)} crates agree")

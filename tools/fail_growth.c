@@ -1,6 +1,6 @@
-/* Counts the calls of malloc, calloc and realloc from 1 on, and refuses the one that GROWTH_REFUSED numbers and
- * those behind it, GROWTH_COUNT in all. Each refusal writes a byte to the file GROWTH_TOLD. fail-each-growth
- * preloads it. */
+/* Counts the calls of malloc, calloc and realloc from 1 on, and refuses the one that GROWTH_REFUSED numbers
+ * and those behind it, GROWTH_COUNT in all. Each refusal writes a byte to the file GROWTH_TOLD.
+ * fail-each-growth preloads it. */
 #define _GNU_SOURCE
 #include <errno.h>
 #include <stddef.h>

@@ -303,9 +303,9 @@ class Shown(unittest.TestCase):
     def test_the_rattle_code_of_the_guide_is_that_of_tests(self):
         shown = re.findall(r"^```rust\n(.*?)^```", (ROOT / "docs/GUIDE.md").read_text(), re.M | re.S)
         self.assertEqual(len(shown), 2)
-        for code, crate in zip(shown, ("sv_app", "sv_hub")):
-            tests = (ROOT / "crates" / crate / "src" / "tests.rt").read_text()
-            with self.subTest(crate):
+        for code, file in zip(shown, ("sv_run_tests/src/runs.rt", "sv_hub/src/tests.rt")):
+            tests = (ROOT / "crates" / file).read_text()
+            with self.subTest(file):
                 self.assertIn("\n".join(line.strip() for line in code.splitlines()),
                               "\n".join(line.strip() for line in tests.splitlines()))
 

@@ -1,7 +1,7 @@
 -- What is written for a text, with which status, and which reports are printed.
 use Rattle.std.specs.Prelude.{ℕ, Bool, ◌≡◌, ◌==◌, ◌&&◌, if◌then◌else◌, List, [], Result, Ok, Err, length}
 use Rattle.std.specs.List.{flat_map, list_all}
-use Rattle.sv_model.specs.Flow.{held_items}
+use Rattle.sv_model.specs.Holding.{held_items}
 use Rattle.sv_model.specs.History.{IsWhole}
 use Rattle.sv_model.specs.Lawful.{IsLawful}
 use Rattle.sv_model.specs.Replies.{AreReplies}
@@ -33,22 +33,25 @@ status_of replies held = if is_clean replies held then Clean else Found
 abbrev pub printed_reports : List Reply → List Report
 printed_reports replies = flat_map (λ (r : Reply). r.reports) replies
 
--- A whole history of a trace, with the replies to its events, and the status of these and of what is held at the end.
+-- A whole history of a trace, with the replies to its events, and the status of these and of what is held
+-- at the end.
 pub record IsChecked (t : Trace) (history : List Mark) (replies : List Reply) (status : Status) : Type 0 where
   pub whole : IsWhole t history
   pub answered : AreReplies t history replies
   pub has_status : status ≡ status_of replies (held_items t history)
 
--- The text of a whole history of a trace, and its status: each event is printed with the reply to it, and then what is
--- held at the end. The reports are those that are printed.
-pub record IsTextOf (t : Trace) (history : List Mark) (status : Status) (text : List ℕ) (reports : List Report) : Type 0 where
+-- The text of a whole history of a trace, and its status: each event is printed with the reply to it, and
+-- then what is held at the end. The reports are those that are printed.
+pub record IsTextOf (t : Trace) (history : List Mark) (status : Status) (text : List ℕ)
+    (reports : List Report) : Type 0 where
   pub replies : List Reply
   pub checked : IsChecked t history replies status
   pub has_text : text ≡ history_text t history replies (held_items t history)
   pub has_reports : reports ≡ printed_reports replies
 
 -- the line of a refusal, and its status; no report is printed
-pub record IsRefusalLine (refusal : Refusal) (status : Status) (text : List ℕ) (reports : List Report) : Type 0 where
+pub record IsRefusalLine (refusal : Refusal) (status : Status) (text : List ℕ)
+    (reports : List Report) : Type 0 where
   pub has_status : status ≡ Refused
   pub has_text : text ≡ refusal_line refusal
   pub has_reports : reports ≡ []

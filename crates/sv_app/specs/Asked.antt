@@ -17,5 +17,6 @@ IsAnswerToAsk (Some Check) bytes status text reports = IsAnswerTo InTextOrder by
 IsAnswerToAsk (Some Replay) bytes status text reports = IsAnswerTo InSomeOrder bytes status text reports
 IsAnswerToAsk (Some (Generate seed count)) bytes status text reports = (status ≡ Clean)
     × (text ≡ generated seed count) × (reports ≡ [])
-IsAnswerToAsk (Some (Bench seed count)) bytes status text reports = IsBench seed count status text × (reports ≡ [])
+IsAnswerToAsk (Some (Bench seed count)) bytes status text reports = IsBench seed count status text
+    × (reports ≡ [])
 IsAnswerToAsk None bytes status text reports = ⊥

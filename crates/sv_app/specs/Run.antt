@@ -4,7 +4,8 @@ use Rattle.std.specs.Io.KnownBytes.{Appends, IsAtEnd}
 use Rattle.sv_words.specs.declared.ask.Ask.{Ask}
 use Rattle.sv_words.specs.declared.ask.Ask.TheVariants.{Check, Replay}
 use Rattle.sv_app.specs.declared.status.Status.{Status}
-use Rattle.sv_app.specs.declared.status.Status.TheVariants.{Clean, Found, Refused, Usage, ReadFault, WriteFault, Memory, TooLong}
+use Rattle.sv_app.specs.declared.status.Status.TheVariants.{Clean, Found, Refused, Usage, ReadFault}
+use Rattle.sv_app.specs.declared.status.Status.TheVariants.{WriteFault, Memory, TooLong}
 
 -- the status of a run that wrote its whole answer
 abbrev pub IsAnswered : Status → Type 0
@@ -40,7 +41,8 @@ IsAnsweredOrMemory Memory = ⊤
 IsAnsweredOrMemory TooLong = ⊥
 
 -- the bytes are all that the source had left, and it came to its end
-pub record GaveAll {S : Type 0} (left_of : S → Option (List ℕ)) (given_by : S → ℕ) (is_at_end : S → Bool) (bytes : List ℕ) (old new : S)
+pub record GaveAll {S : Type 0} (left_of : S → Option (List ℕ)) (given_by : S → ℕ) (is_at_end : S → Bool)
+    (bytes : List ℕ) (old new : S)
     : Type 0 where
   pub all : IfSome (left_of old) (λ left. left ≡ bytes)
   pub nothing_left : IsAtEnd (left_of new)
@@ -48,9 +50,12 @@ pub record GaveAll {S : Type 0} (left_of : S → Option (List ℕ)) (given_by : 
   pub ended : is_at_end new ≡ true
 
 -- `check` and `replay` ask about the bytes of the source, and what else is asked for reads nothing
-abbrev pub IsInput : {S : Type 0} → (S → Option (List ℕ)) → (S → ℕ) → (S → Bool) → Option Ask → (bytes : List ℕ) (old new : S) → Type 0
-IsInput left_of given_by is_at_end (Some Check) bytes old new = GaveAll left_of given_by is_at_end bytes old new
-IsInput left_of given_by is_at_end (Some Replay) bytes old new = GaveAll left_of given_by is_at_end bytes old new
+abbrev pub IsInput : {S : Type 0} → (S → Option (List ℕ)) → (S → ℕ) → (S → Bool) → Option Ask
+    → (bytes : List ℕ) (old new : S) → Type 0
+IsInput left_of given_by is_at_end (Some Check) bytes old new =
+    GaveAll left_of given_by is_at_end bytes old new
+IsInput left_of given_by is_at_end (Some Replay) bytes old new =
+    GaveAll left_of given_by is_at_end bytes old new
 IsInput left_of given_by is_at_end other bytes old new = new ≡ old
 
 -- a first part of the text, maybe all of it, was written

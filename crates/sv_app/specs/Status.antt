@@ -1,7 +1,8 @@
 -- The numbers with which the program ends.
 use Rattle.std.specs.Prelude.{ℕ}
 use Rattle.sv_app.specs.declared.status.Status.{Status}
-use Rattle.sv_app.specs.declared.status.Status.TheVariants.{Clean, Found, Refused, Usage, ReadFault, WriteFault, Memory, TooLong}
+use Rattle.sv_app.specs.declared.status.Status.TheVariants.{Clean, Found, Refused, Usage, ReadFault}
+use Rattle.sv_app.specs.declared.status.Status.TheVariants.{WriteFault, Memory, TooLong}
 
 abbrev pub number_of : Status → ℕ
 number_of Clean = 0

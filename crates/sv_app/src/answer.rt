@@ -3,7 +3,8 @@ ghost use Rattle.std.specs.Prelude.{◌≡◌, IfOk};
 ghost use Rattle.std.specs.List.{list_all};
 ghost use Rattle.sv_model.specs.History.{IsWhole};
 ghost use Rattle.sv_model.specs.Lawful.{IsLawful};
-ghost use Rattle.sv_app.specs.Answer.{InTextOrder, IsAnswerTo, IsRefusalLine, IsTextOf, is_silent, printed_reports, status_of};
+ghost use Rattle.sv_app.specs.Answer.{InTextOrder, IsAnswerTo, IsRefusalLine, IsTextOf, is_silent};
+ghost use Rattle.sv_app.specs.Answer.{printed_reports, status_of};
 
 use crate::Status;
 use crate::validating::validate;

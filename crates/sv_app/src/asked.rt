@@ -17,12 +17,14 @@ use sv_words::Ask;
 
 /// The bytes that are asked about: all of the source for `check` and `replay`. Nothing else reads.
 pub fn input<S: Source>(alloc: Global, ask: Ask, source: &mut S) -> Result<Vec<u8>, ReadStop>
-    ensures input { IfOk result (λ v. IsInput S.left S.given S.ended (Some ask) v.items source.old source.new) }
+    ensures input { IfOk result (λ v. IsInput S.left S.given S.ended
+        (Some ask) v.items source.old source.new) }
     ensures unread { ask ≢ Ask.Check → ask ≢ Ask.Replay → source.new ≡ source.old }
     ensures failed { IsErrOf result ReadStop.Failed → Rose (S.faults source.old) (S.faults source.new) }
     ensures no_fault { result ≢ Err ReadStop.Failed → S.faults source.new ≡ S.faults source.old }
-    ensures too_long { IsErrOf result ReadStop.TooLong ↔ (S.given source.old + MAX_TEXT < S.given source.new) }
-    ensures limit { result ≢ Err ReadStop.TooLong → S.given source.new ≤ S.given source.old + MAX_TEXT }
+    ensures too_long { IsErrOf result ReadStop.TooLong
+        ↔ (S.given source.old + 67108864 < S.given source.new) }
+    ensures limit { result ≢ Err ReadStop.TooLong → S.given source.new ≤ S.given source.old + 67108864 }
 {
     match ask {
         Ask::Check | Ask::Replay => read_all(alloc, source),
@@ -33,7 +35,8 @@ pub fn input<S: Source>(alloc: Global, ask: Ask, source: &mut S) -> Result<Vec<u
 // The generated trace of so many works, 1 to 100,000.
 fn generated(alloc: Global, seed: u64, count: u32) -> Result<Answer, AllocError>
     requires { (1 ≤ count) × (count ≤ 100000) }
-    ensures { IfOk result (λ it. (it.status ≡ Status.Clean) × (it.text ≡ generated seed count) × (it.reports ≡ [])) }
+    ensures { IfOk result (λ it. (it.status ≡ Status.Clean) × (it.text ≡ generated seed count)
+        × (it.reports ≡ [])) }
 {
     let text = generate(alloc, seed, count)?;
     Ok(Answer {

@@ -47,7 +47,8 @@ fn bench_line(
 // The line on a trace in the order of its lines.
 fn trace_line(alloc: Global, seed: u64, count: u32, trace: &Trace) -> Result<Answer, AllocError>
     requires { IsLawful trace.now }
-    ensures line { IfOk result (λ it. IsBenchLine seed count trace.now trace.now.text_order it.status it.text) }
+    ensures line { IfOk result (λ it. IsBenchLine seed count trace.now trace.now.text_order it.status
+        it.text) }
     ensures reports { IfOk result (λ it. it.reports ≡ []) }
 {
     let validator = validate(alloc, trace)?;

@@ -55,7 +55,7 @@ pub fn check_run<S: Source, K: Sink>(
     ensures no_write_fault { result ≢ Status.WriteFault → K.faults sink.new ≡ K.faults sink.old }
     ensures read_fault { result ≡ Status.ReadFault → Rose (S.faults source.old) (S.faults source.new) }
     ensures no_read_fault { result ≢ Status.ReadFault → S.faults source.new ≡ S.faults source.old }
-    ensures too_long { (result ≡ Status.TooLong) ↔ (S.given source.old + MAX_TEXT < S.given source.new) }
+    ensures too_long { (result ≡ Status.TooLong) ↔ (S.given source.old + 67108864 < S.given source.new) }
     ensures usage { (result ≡ Status.Usage) ↔ (asked words.now ≡ None) }
     ensures unread { asked words.now ≢ Some Ask.Check → asked words.now ≢ Some Ask.Replay
         → source.new ≡ source.old }
@@ -64,7 +64,7 @@ pub fn check_run<S: Source, K: Sink>(
         → HasHeard []
         (⟦<Hub as Audience>⟧.attachments hub.old)
         (⟦<Hub as Audience>⟧.attachments hub.new) }
-    ensures complete { asked words.now ≢ None → S.given source.new ≤ S.given source.old + MAX_TEXT
+    ensures complete { asked words.now ≢ None → S.given source.new ≤ S.given source.old + 67108864
         → ¬ Rose (S.faults source.old) (S.faults source.new) → ¬ Rose (K.faults sink.old) (K.faults sink.new)
         → IsAnsweredOrMemory result }
 {

@@ -29,7 +29,8 @@ fn tell<H: Audience>(hub: &mut H, reports: &[Report])
     }
 }
 
-/// Tells the audience all reports, and then writes the text. Before there is room for all reports none is heard.
+/// Tells the audience all reports, and then writes the text. Before there is room for all reports none is
+/// heard.
 pub fn deliver<K: Sink, H: Audience>(
     sink: &mut K,
     hub: &mut H,

@@ -1,4 +1,8 @@
 //! The validator from bytes to bytes: what is asked for, what is read, what is accepted and what is written.
+//!
+//! - knows bytes and words of one run
+//! - definitions: `Run`, `Asked`, `Answer`, `Bench`, `Status`
+//! - used by `svval`
 #![tactic(auto)]
 
 mod answer;
@@ -14,6 +18,3 @@ mod validating;
 pub use checking::check_run;
 pub use runs::run;
 pub use status::Status;
-
-#[cfg(test)]
-mod tests;

@@ -1,16 +1,18 @@
 -- What runs in a batch: published recordings, and waits and signals that find what they ask for.
-use Rattle.std.specs.Prelude.{ℕ, ◌≡◌, ◌<◌, List, [], ◌∷◌, ◌++◌, true, None, Some, MatchOption, IfSome, IsTrue, fold, is_some, length, slice_index_or, take}
+use Rattle.std.specs.Prelude.{ℕ, ◌≡◌, ◌<◌, List, [], ◌∷◌, ◌++◌, true, None, Some, MatchOption, IfSome}
+use Rattle.std.specs.Prelude.{IsTrue, fold, is_some, length, slice_index_or, take}
 use Rattle.std.specs.BTreeMap.{get}
 use Rattle.std.specs.List.{All, enumerate_from}
 use Rattle.std.specs.Ordering.{nat_cmp}
 use Rattle.sv_mask.specs.Scopes.{second_sync, usages_at}
-use Rattle.sv_model.specs.Batches.{instances_of, rec_given, rec_made}
-use Rattle.sv_model.specs.Binding.{Bound, bound, step_made}
-use Rattle.sv_model.specs.Compile.{compile}
+use Rattle.sv_model.specs.Binding.{instances_of, rec_given, rec_made, bound, step_made}
+use Rattle.sv_model.specs.Places.{Bound}
+use Rattle.sv_model.specs.Recordings.{compile}
 use Rattle.sv_model.specs.Declarations.{kind_of}
-use Rattle.sv_model.specs.Enabled.{is_published}
+use Rattle.sv_model.specs.Holding.{is_published}
 use Rattle.sv_model.specs.Gather.{gather}
-use Rattle.sv_model.specs.Made.{Made, binary_pair, signaled, waited}
+use Rattle.sv_model.specs.Processed.{Made}
+use Rattle.sv_model.specs.Semaphores.{binary_pair, signaled, waited}
 use Rattle.sv_model.specs.QueueGroups.{from_token, place_in}
 use Rattle.sv_model.specs.Work.{numbered}
 use Rattle.sv_model.specs.declared.line.Mark.{Mark}
@@ -19,14 +21,14 @@ use Rattle.sv_model.specs.declared.line.SemaphoreUse.{SemaphoreUse}
 use Rattle.sv_model.specs.declared.line.Trace.{Trace}
 use Rattle.sv_model.specs.declared.work.Group.{Group}
 use Rattle.sv_model.specs.declared.work.Step.{Step}
-use Rattle.sv_bound.specs.Runs.{run_for}
-use Rattle.sv_bound.specs.declared.run.Run.{Run}
-use Rattle.sv_inside.specs.Steps.{IsStepOf}
+use Rattle.sv_binding.specs.Runs.{run_for}
+use Rattle.sv_binding.specs.declared.run.Run.{Run}
+use Rattle.sv_step_laws.specs.Steps.{IsStepOf}
 use Rattle.sv_sema.specs.Stands.{IsUseOf}
 use Rattle.sv_sema.specs.declared.semaphores.Pairing.{Pairing}
 use Rattle.sv_sema.specs.declared.semaphores.Pairing.TheVariants.{Initial, Token, NotYet}
-use Rattle.sv_work.specs.Works.{IsAt, WorkFits}
-use Rattle.sv_work.specs.declared.work.Work.{Work}
+use Rattle.sv_processed.specs.Works.{IsAt, WorkFits}
+use Rattle.sv_processed.specs.declared.work.Work.{Work}
 use Rattle.sv_batch.specs.Begun.{AreInstancesOf}
 use Rattle.sv_batch.specs.declared.recordings.Published.{Published}
 use Rattle.sv_batch.specs.declared.recordings.Recordings.{Recordings}
@@ -67,18 +69,26 @@ pub record MayRun (w : Work) (r : Recordings) : Type 0 where
 
 -- the bound steps of a recording that runs there, one after another
 abbrev pub are_steps_after : Run → List Step → Work → Work → Type 0
-are_steps_after r steps before after = (t : Trace) (event : ℕ) (old more : List Bound) (m : Made) → IsAt t event old more m before
-    → IsAt t event old (more ++ numbered (length (old ++ more)) (gather (step_made (run_for event r)) (bound (run_for event r)) m steps)) (fold (step_made (run_for event r)) m steps) after
+are_steps_after r steps before after = (t : Trace) (event : ℕ) (old more : List Bound) (m : Made)
+    → IsAt t event old more m before
+    → IsAt t event old (more ++ numbered (length (old ++ more))
+    (gather (step_made (run_for event r)) (bound (run_for event r)) m steps))
+    (fold (step_made (run_for event r)) m steps) after
 
 -- a recording in the slot of the run
 abbrev pub is_recording_after : Run → ℕ → Trace → Work → Work → Type 0
-is_recording_after r k t before after = (event : ℕ) (old more : List Bound) (m : Made) → IsAt t event old more m before
-    → IsAt t event old (more ++ numbered (length (old ++ more)) (rec_given t (run_for event r) m (r.slot, k))) (rec_made t (run_for event r) m (r.slot, k)) after
+is_recording_after r k t before after = (event : ℕ) (old more : List Bound) (m : Made)
+    → IsAt t event old more m before
+    → IsAt t event old (more ++ numbered (length (old ++ more))
+    (rec_given t (run_for event r) m (r.slot, k))) (rec_made t (run_for event r) m (r.slot, k)) after
 
 -- recordings, each in its slot
 abbrev pub are_recordings_after : Run → List ℕ → Trace → Work → Work → Type 0
-are_recordings_after r recs t before after = (event : ℕ) (old more : List Bound) (m : Made) → IsAt t event old more m before
-    → IsAt t event old (more ++ numbered (length (old ++ more)) (gather (rec_made t (run_for event r)) (rec_given t (run_for event r)) m (enumerate_from 0 recs))) (fold (rec_made t (run_for event r)) m (enumerate_from 0 recs)) after
+are_recordings_after r recs t before after = (event : ℕ) (old more : List Bound) (m : Made)
+    → IsAt t event old more m before
+    → IsAt t event old (more ++ numbered (length (old ++ more))
+    (gather (rec_made t (run_for event r)) (rec_given t (run_for event r)) m (enumerate_from 0 recs)))
+    (fold (rec_made t (run_for event r)) m (enumerate_from 0 recs)) after
 
 -- Waits and signals.
 
@@ -92,16 +102,21 @@ FindsRoom t m u = kind_of t u.sem ≡ Some Binary → binary_pair m u.sem ≡ No
 
 -- each use has a value where its semaphore is a timeline, and each wait finds a signal after those before it
 pub record AreWaitsReady (t : Trace) (m : Made) (waits : List SemaphoreUse) : Type 0 where
-  pub uses : (i : ℕ) (d : SemaphoreUse) → i < length waits → IsUseOf t (slice_index_or waits i d).sem (slice_index_or waits i d).value
-  pub found : (i : ℕ) (d : SemaphoreUse) → i < length waits → FindsSignal t (fold waited m (take i waits)) (slice_index_or waits i d)
+  pub uses : (i : ℕ) (d : SemaphoreUse) → i < length waits
+      → IsUseOf t (slice_index_or waits i d).sem (slice_index_or waits i d).value
+  pub found : (i : ℕ) (d : SemaphoreUse) → i < length waits
+      → FindsSignal t (fold waited m (take i waits)) (slice_index_or waits i d)
 
 -- and each signal finds room after those before it
 pub record AreSignalsReady (t : Trace) (m : Made) (signals : List SemaphoreUse) : Type 0 where
-  pub uses : (i : ℕ) (d : SemaphoreUse) → i < length signals → IsUseOf t (slice_index_or signals i d).sem (slice_index_or signals i d).value
-  pub room : (i : ℕ) (d : SemaphoreUse) → i < length signals → FindsRoom t (fold (signaled t) m (take i signals)) (slice_index_or signals i d)
+  pub uses : (i : ℕ) (d : SemaphoreUse) → i < length signals
+      → IsUseOf t (slice_index_or signals i d).sem (slice_index_or signals i d).value
+  pub room : (i : ℕ) (d : SemaphoreUse) → i < length signals
+      → FindsRoom t (fold (signaled t) m (take i signals)) (slice_index_or signals i d)
 
 -- the group of a wait from the token that it is paired with, if there is one
 abbrev pub pairing_groups : Run → SemaphoreUse → Pairing → List Group
-pairing_groups r w (Token token) = from_token (place_in (run_for 0 r)) token r.queue (second_sync w.stages) (usages_at w.stages) ∷ []
+pairing_groups r w (Token token) = from_token (place_in (run_for 0 r)) token r.queue (second_sync w.stages)
+    (usages_at w.stages) ∷ []
 pairing_groups r w Initial = []
 pairing_groups r w NotYet = []

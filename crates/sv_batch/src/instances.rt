@@ -2,7 +2,7 @@
 ghost use Rattle.std.specs.Prelude.{◌≡◌, IfOk, OnOk, count_by, unwrap_or};
 ghost use Rattle.std.specs.BTreeMap.{get};
 ghost use Rattle.std.specs.Ordering.{nat_cmp};
-ghost use Rattle.sv_model.specs.Compile as compile;
+ghost use Rattle.sv_model.specs.Recordings as compile;
 ghost use Rattle.sv_batch.specs.Begun.{HaveInstances, Notes};
 
 use std::alloc::{AllocError, Global};
@@ -35,8 +35,8 @@ fn note(table: &mut BTreeMap<u32, u64>, number: u32, count: u64) -> Result<(), A
     Ok(())
 }
 
-/// The instances of each recording, by the numbers of the recordings: of each number the first recording counts.
-/// Made once for a trace, so that to publish a recording costs no walk over all of them.
+/// The instances of each recording, by the numbers of the recordings: of each number the first recording
+/// counts. Made once for a trace, so that to publish a recording costs no walk over all of them.
 pub fn instances_of(
     alloc: Global,
     recordings: &[Recording],

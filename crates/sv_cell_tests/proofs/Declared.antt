@@ -6,17 +6,22 @@ use Rattle.std.specs.Option.{option_and_then}
 use Rattle.sv_model.specs.Declarations.{Resource, said, says_resource}
 use Rattle.sv_model.specs.declared.line.Line.{Line}
 
-said_with : (says : Line → Option Resource) (x : Line) (xs : List Line) (o : Option Resource) → says x ≡ o → said says xs ≡ option_and_then says (find (λ (l : Line). is_some (says l)) xs)
-    → slice_get (cons_option o (filter_map says xs)) 0 ≡ option_and_then says (cond (is_some o) (Some x) (find (λ (l : Line). is_some (says l)) xs))
+said_with : (says : Line → Option Resource) (x : Line) (xs : List Line) (o : Option Resource) → says x ≡ o
+    → said says xs ≡ option_and_then says (find (λ (l : Line). is_some (says l)) xs)
+    → slice_get (cons_option o (filter_map says xs)) 0
+    ≡ option_and_then says (cond (is_some o) (Some x) (find (λ (l : Line). is_some (says l)) xs))
 said_with says x xs None is e = e
 said_with says x xs (Some r) is e = sym is
 
-said_is : (says : Line → Option Resource) (xs : List Line) → said says xs ≡ option_and_then says (find (λ (l : Line). is_some (says l)) xs)
+said_is : (says : Line → Option Resource) (xs : List Line) → said says xs
+    ≡ option_and_then says (find (λ (l : Line). is_some (says l)) xs)
 said_is says [] = refl
 said_is says (x ∷ xs) = said_with says x xs (says x) refl (said_is says xs)
 
 -- the line that is found says what is said
-pub says_first : (xs lines : List Line) (m n : ℕ) (x : Line) → xs ≡ lines → m ≡ n → Some x ≡ find (λ (l : Line). is_some (says_resource m l)) xs → said (says_resource n) lines ≡ says_resource n x
+pub says_first : (xs lines : List Line) (m n : ℕ) (x : Line) → xs ≡ lines → m ≡ n → Some x
+    ≡ find (λ (l : Line). is_some (says_resource m l)) xs → said (says_resource n) lines ≡ says_resource n x
 says_first xs lines m n x same number e =
     subst (λ (k : ℕ). said (says_resource k) lines ≡ says_resource k x) number
-    (subst (λ (ls : List Line). said (says_resource m) ls ≡ says_resource m x) same (said_is (says_resource m) xs ∙ ap (option_and_then (says_resource m)) (sym e)))
+    (subst (λ (ls : List Line). said (says_resource m) ls ≡ says_resource m x) same
+    (said_is (says_resource m) xs ∙ ap (option_and_then (says_resource m)) (sym e)))

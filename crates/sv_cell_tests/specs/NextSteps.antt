@@ -4,7 +4,7 @@ use Rattle.sv_model.specs.declared.line.Trace.{Trace}
 use Rattle.sv_model.specs.declared.work.Access.{Access}
 use Rattle.sv_model.specs.declared.work.Area.{Area}
 use Rattle.sv_model.specs.declared.work.Step.{Step}
-use Rattle.sv_inside.specs.Steps.{IsShortStep, IsStepOf}
+use Rattle.sv_step_laws.specs.Steps.{IsShortStep, IsStepOf}
 use Rattle.sv_space.specs.Steps.{IsNext}
 
 -- the step lies inside the resources of the trace, and has this number

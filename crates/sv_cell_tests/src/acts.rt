@@ -1,6 +1,6 @@
 //! Steps of one access or of one group, as tables write them.
 ghost use Rattle.std.specs.Prelude.{◌≡◌, ◌∷◌, [], IfOk, IfSome, IsSome, IsTrue, Some, option_to_list};
-ghost use Rattle.sv_inside.specs.Steps.{IsAccessOf, IsOfImage};
+ghost use Rattle.sv_step_laws.specs.Steps.{IsAccessOf, IsOfImage};
 ghost use Rattle.sv_space.specs.Areas.{IsAreaOf};
 ghost use Rattle.sv_cell_tests.specs.NextSteps.{IsNextOf, IsTransitionOn};
 
@@ -30,8 +30,8 @@ pub const NOTHING: Scopes = Scopes {
     a2: 0,
 };
 
-/// What an element of a barrier does besides: nothing, it names old and new layouts on a queue, or it is a release or
-/// an acquire, of the first family to the second, which may name layouts too.
+/// What an element of a barrier does besides: nothing, it names old and new layouts on a queue, or it is a
+/// release or an acquire, of the first family to the second, which may name layouts too.
 #[derive(Clone, Copy)]
 pub enum Change {
     Nothing,

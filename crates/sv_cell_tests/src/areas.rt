@@ -2,8 +2,8 @@
 use sv_model::work::Area;
 use sv_range::{Cells, Span};
 
-/// The bytes of the buffer from one to another, which is not included; or of the image the first mip, the number of
-/// mips, the first layer and the number of layers.
+/// The bytes of the buffer from one to another, which is not included; or of the image the first mip, the
+/// number of mips, the first layer and the number of layers.
 #[derive(Clone, Copy, PartialEq)]
 pub enum At {
     Bytes(u64, u64),

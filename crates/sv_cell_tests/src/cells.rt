@@ -105,10 +105,11 @@ fn take_act(
     }
 }
 
-/// The cells of the trace of a text after these acts. None where the text is refused, or an act lies outside of its
-/// resources.
+/// The cells of the trace of a text after these acts. None where the text is refused, or an act lies
+/// outside of its resources.
 pub fn take_all(alloc: Global, text: &str, acts: &[Act]) -> Result<Option<Tried>, AllocError>
-    ensures { IfOk result (λ found. IfSome found (λ r. AreCellsOf r.trace r.cells.space r.cells.layouts r.cells.owners)) }
+    ensures { IfOk result (λ found. IfSome found (λ r. AreCellsOf r.trace r.cells.space r.cells.layouts
+        r.cells.owners)) }
 {
     let Ok(trace) = read_text(alloc, text.as_bytes()) else {
         return Ok(None);
@@ -137,7 +138,8 @@ pub fn take_all(alloc: Global, text: &str, acts: &[Act]) -> Result<Option<Tried>
 impl Tried {
     /// The layout of the cell of an image that has this number. None where there is none.
     pub fn layout(&self, res: u32, number: u64) -> Option<Layout>
-        requires { AreCellsOf self.now.trace self.now.cells.space self.now.cells.layouts self.now.cells.owners }
+        requires { AreCellsOf self.now.trace self.now.cells.space self.now.cells.layouts
+            self.now.cells.owners }
     {
         if !is_image_cell(&self.trace, res, number) {
             return None;
@@ -147,7 +149,8 @@ impl Tried {
 
     /// The owner of the cell of a resource that has this number. None where there is none.
     pub fn owner(&self, res: u32, number: u64) -> Option<Owner>
-        requires { AreCellsOf self.now.trace self.now.cells.space self.now.cells.layouts self.now.cells.owners }
+        requires { AreCellsOf self.now.trace self.now.cells.space self.now.cells.layouts
+            self.now.cells.owners }
     {
         if !is_resource_cell(&self.trace, res, number) {
             return None;
@@ -157,7 +160,8 @@ impl Tried {
 
     /// The number of groups that the state of the cell was given. None where the area is not of the trace.
     pub fn upto(&self, at: Area) -> Option<u64>
-        requires { AreCellsOf self.now.trace self.now.cells.space self.now.cells.layouts self.now.cells.owners }
+        requires { AreCellsOf self.now.trace self.now.cells.space self.now.cells.layouts
+            self.now.cells.owners }
     {
         if !is_inside(&self.trace, at) {
             return None;

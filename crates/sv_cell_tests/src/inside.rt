@@ -4,7 +4,7 @@ ghost use Rattle.std.specs.Option.{option_copied};
 ghost use Rattle.sv_model.specs.Cells.{area_resource};
 ghost use Rattle.sv_model.specs.Declarations.{says_resource};
 ghost use Rattle.sv_model.specs.declared.work.Area.TheVariants as area;
-ghost use Rattle.sv_inside.specs.Steps.{IsAccessOf, IsOfImage};
+ghost use Rattle.sv_step_laws.specs.Steps.{IsAccessOf, IsOfImage};
 ghost use Rattle.sv_space.specs.Areas.{IsAreaOf, IsIn};
 ghost use Rattle.sv_cell_tests.specs.Found.{IsImageCell, IsImageCellOf, IsResourceCell, IsResourceCellOf};
 

@@ -34,7 +34,8 @@ const WHOLE: At = At::Image(0, 3, 0, 4);
 
 const FIRST: At = At::Image(0, 1, 0, 1);
 
-// A note: the number of its act, its cells, what was done, the layout that was declared, and the one that was found.
+// A note: the number of its act, its cells, what was done, the layout that was declared, and the one that
+// was found.
 type Said = (u64, At, Option<What>, Layout, Layout);
 
 // Acts, all notes on them, and the layouts of some cells then, by their resource and number.
@@ -286,7 +287,8 @@ fn are_notes(notes: &[Note], owed: &[Said]) -> bool {
 }
 
 fn has_layouts(tried: &Tried, layouts: &[(u32, u64, Layout)]) -> bool
-    requires { AreCellsOf tried.now.trace tried.now.cells.space tried.now.cells.layouts tried.now.cells.owners }
+    requires { AreCellsOf tried.now.trace tried.now.cells.space tried.now.cells.layouts
+        tried.now.cells.owners }
 {
     for (res, number, layout) in layouts {
         if tried.layout(*res, *number) != Some(*layout) {

@@ -1,5 +1,9 @@
-//! Tests of the crates that keep something for each cell: lines of pieces, states, runs, maps of cells, layouts,
-//! owners and the space.
+//! Tests of the crates that keep something for each cell: lines of pieces, states, runs, maps of cells,
+//! layouts, owners and the space.
+//!
+//! - knows cells, and no text
+//! - definitions: `Standing`, `Found`, `OnMap`, `NextSteps`
+//! - used by nothing: it only tests
 #![tactic(auto)]
 
 #[cfg(test)]

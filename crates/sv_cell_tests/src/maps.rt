@@ -13,8 +13,8 @@ use sv_model::line::{Line, Sharing};
 use sv_model::work::{Area, Cell};
 use sv_range::List;
 
-// The buffer 0 has 64 bytes of value 1, and the image 1 has 3 mips with 4 layers of value 2. Values that are put in,
-// the runs of an area with their values then, and the values of some cells.
+// The buffer 0 has 64 bytes of value 1, and the image 1 has 3 mips with 4 layers of value 2. Values that
+// are put in, the runs of an area with their values then, and the values of some cells.
 #[derive(Clone, Copy)]
 struct Row {
     puts: &'static [(At, u64)],

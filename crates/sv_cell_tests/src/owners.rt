@@ -285,7 +285,8 @@ fn are_notes(notes: &[Note], owed: &[Said]) -> bool {
 }
 
 fn has_owners(tried: &Tried, owners: &[(u32, u64, Owner)]) -> bool
-    requires { AreCellsOf tried.now.trace tried.now.cells.space tried.now.cells.layouts tried.now.cells.owners }
+    requires { AreCellsOf tried.now.trace tried.now.cells.space tried.now.cells.layouts
+        tried.now.cells.owners }
 {
     for (res, number, owner) in owners {
         if tried.owner(*res, *number) != Some(*owner) {

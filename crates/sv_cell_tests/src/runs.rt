@@ -16,8 +16,8 @@ use sv_model::work::{
 use sv_range::List;
 use sv_runs::{add_note, add_run};
 
-// A note on cells, of the command with that number, that found that layout, or cells of that queue family. Or a note
-// on an event.
+// A note on cells, of the command with that number, that found that layout, or cells of that queue family.
+// Or a note on an event.
 #[derive(Clone, Copy)]
 enum Said {
     Layout(At, u32, Layout),

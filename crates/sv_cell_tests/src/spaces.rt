@@ -1,4 +1,5 @@
-//! Reports of a space, and how far the states of its cells have come. The expected ones are worked out by hand.
+//! Reports of a space, and how far the states of its cells have come. The expected ones are worked out by
+//! hand.
 ghost use Rattle.sv_cell_tests.specs.Standing.{AreCellsOf};
 
 use crate::acts::{Act, Change, NOTHING, Scopes};
@@ -214,7 +215,8 @@ fn are_races(reports: &[Report], races: &[Race]) -> bool {
 }
 
 fn has_come(tried: &Tried, upto: &[(At, u64)]) -> bool
-    requires { AreCellsOf tried.now.trace tried.now.cells.space tried.now.cells.layouts tried.now.cells.owners }
+    requires { AreCellsOf tried.now.trace tried.now.cells.space tried.now.cells.layouts
+        tried.now.cells.owners }
 {
     for (at, groups) in upto {
         if tried.upto(at.area()) != Some(*groups) {

@@ -47,7 +47,8 @@ enum Move {
     Copy,
 }
 
-// What is done to the state, how many accesses are kept then, and with which step a later access of queue 0 races.
+// What is done to the state, how many accesses are kept then, and with which step a later access of queue 0
+// races.
 #[derive(Clone, Copy)]
 struct Row {
     moves: &'static [Move],
@@ -119,8 +120,8 @@ const WRITES_TO_COMPUTE: Move = Move::Barrier {
     a2: 0,
 };
 
-// To the sampled reads of fragment shaders and the stages behind: from compute shaders and indirect draws, and
-// from vertex shaders and the stages before.
+// To the sampled reads of fragment shaders and the stages behind: from compute shaders and indirect draws,
+// and from vertex shaders and the stages before.
 const COMPUTE_TO_FRAGMENT: Move = Move::Barrier {
     step: 2,
     s1: COMPUTE | 1,

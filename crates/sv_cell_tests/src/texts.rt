@@ -1,5 +1,5 @@
-//! The lines of traces that declare two queues of the families 0 and 1, a buffer 0 of 64 bytes and an image 1 of 3
-//! mips with 4 layers.
+//! The lines of traces that declare two queues of the families 0 and 1, a buffer 0 of 64 bytes and an image
+//! 1 of 3 mips with 4 layers.
 pub const PLAIN: &str = r#"{"op":"queue","queue":0,"family":0,"lane":0}
 {"op":"queue","queue":1,"family":1,"lane":1}
 {"op":"buffer","res":0,"size":64}

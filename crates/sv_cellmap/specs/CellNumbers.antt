@@ -1,5 +1,6 @@
 -- The cells of a resource by their numbers: the byte of a buffer, and `mip * layers + layer` of an image.
-use Rattle.std.specs.Prelude.{ℕ, ◌≡◌, ◌==◌, ◌<◌, ◌*◌, ◌/◌, ◌%◌, Option, Some, None, List, ◌∷◌, if◌then◌else◌, slice_get, unwrap_or}
+use Rattle.std.specs.Prelude.{ℕ, ◌≡◌, ◌==◌, ◌<◌, ◌*◌, ◌/◌, ◌%◌, Option, Some, None, List, ◌∷◌}
+use Rattle.std.specs.Prelude.{if◌then◌else◌, slice_get, unwrap_or}
 use Rattle.sv_model.specs.Declarations.{BufferOf, ImageOf, Resource, said, says_resource}
 use Rattle.sv_model.specs.declared.line.Line.{Line}
 use Rattle.sv_model.specs.declared.work.Cell.{Cell}
@@ -16,7 +17,8 @@ layers_in lines res = layers_of (said (says_resource res) lines)
 
 -- the cell with this number, of an image with so many layers or of a buffer
 abbrev pub cell_numbered : ℕ → ℕ → ℕ → Cell
-cell_numbered layers res number = if layers == 0 then Byte res number else Texel res (number / layers) (number % layers)
+cell_numbered layers res number = if layers == 0 then Byte res number else Texel res (number / layers)
+    (number % layers)
 
 -- the resource has a cell with this number
 abbrev pub HasNumber : Resource → ℕ → Type 0

@@ -1,9 +1,2 @@
-pub mod Extents
-pub mod Tables
 pub mod Breaks
-pub mod PassLines
-pub mod Sound
-pub mod KnownParts
-pub mod Measures
-pub mod Following
 pub mod Telling

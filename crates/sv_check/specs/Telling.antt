@@ -9,8 +9,10 @@ use Rattle.sv_rules.specs.Taken.{Taken, taken_with}
 
 -- The line is taken where it has no cause; else nothing changes.
 abbrev pub TakesBytes : Taken → List ℕ → ℕ → Taken → Result ⊤ Fault → Type 0
-TakesBytes old bytes number new (Ok u) = (cause_after old bytes ≡ None) × (new ≡ taken_with old (line_of bytes))
-TakesBytes old bytes number new (Err (Refused refusal)) = (cause_after old bytes ≡ Some refusal.cause) × (refusal.line ≡ number) × (new ≡ old)
+TakesBytes old bytes number new (Ok u) = (cause_after old bytes ≡ None)
+    × (new ≡ taken_with old (line_of bytes))
+TakesBytes old bytes number new (Err (Refused refusal)) = (cause_after old bytes ≡ Some refusal.cause)
+    × (refusal.line ≡ number) × (new ≡ old)
 TakesBytes old bytes number new (Err Memory) = new ≡ old
 
 abbrev pub Tells : List (List ℕ) → Result Trace Fault → Type 0

@@ -5,7 +5,7 @@ ghost use Rattle.std.specs.BTreeMap.{get};
 ghost use Rattle.std.specs.Ordering.{nat_cmp};
 ghost use Rattle.sv_mask.specs.Usages.{same_layout};
 ghost use Rattle.sv_rules.specs.Places as spec;
-ghost use Rattle.sv_check.specs.Tables.{Puts};
+ghost use Rattle.sv_lines.specs.Tables.{Puts};
 
 use std::alloc::{AllocError, Global};
 use std::collections::BTreeMap;
@@ -13,10 +13,13 @@ use sv_mask::Layout;
 use sv_model::line::{Line, PassUse};
 use sv_range::List;
 
-/// Whether the use has another layout than the first use of its attachment, which it is itself where there was none.
+/// Whether the use has another layout than the first use of its attachment, which it is itself where there
+/// was none.
 fn differs_from_first(firsts: &mut BTreeMap<u32, Layout>, u: &PassUse) -> Result<bool, AllocError>
-    ensures differs { IfOk result (λ differs. differs ≡ not (same_layout u.now.layout (unwrap_or (get nat_cmp firsts.old u.now.att) u.now.layout))) }
-    ensures kept { IfOk result (λ differs. Puts firsts.old firsts.new u.now.att (unwrap_or (get nat_cmp firsts.old u.now.att) u.now.layout)) }
+    ensures differs { IfOk result (λ differs. differs
+        ≡ not (same_layout u.now.layout (unwrap_or (get nat_cmp firsts.old u.now.att) u.now.layout))) }
+    ensures kept { IfOk result (λ differs. Puts firsts.old firsts.new u.now.att
+        (unwrap_or (get nat_cmp firsts.old u.now.att) u.now.layout)) }
 {
     match firsts.get(&u.att).copied() {
         Some(layout) => Ok(!u.layout.is_same(layout)),

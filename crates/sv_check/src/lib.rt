@@ -1,36 +1,27 @@
-//! The rules of a trace: whether a line may come after the lines before it, and the trace that the lines make.
+//! The rules of a trace: whether a line may come after the lines before it, and the trace that the lines
+//! make.
+//!
+//! - knows one line, and what the tables of the lines so far say
+//! - definitions: those of `sv_rules`; `Breaks`, `Telling`
+//! - used by `sv_app`
 #![tactic(auto)]
 
 mod calls;
 mod checker;
-mod commands;
-mod elements;
-mod end;
-mod extent;
-mod keep;
-mod known;
-mod lawful;
 mod layouts;
 mod limits;
 mod masks;
-mod measure;
 mod named;
-mod pairs;
 mod part_rule;
 mod parts;
-mod passes;
 mod places;
-mod recordings;
-mod register;
 mod rules;
-mod scripts;
 mod self_dependencies;
-mod sizes;
 #[cfg(test)]
 mod tests;
 mod text;
 #[cfg(test)]
 mod text_tests;
 
-pub use lawful::Checker;
+pub use checker::Checker;
 pub use text::read_text;

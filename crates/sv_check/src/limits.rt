@@ -3,8 +3,7 @@ ghost use Rattle.std.specs.Prelude.{◌≡◌, Some, nat_lt};
 ghost use Rattle.std.specs.List.{list_any};
 ghost use Rattle.sv_rules.specs.Limits as spec;
 
-use crate::checker::Checker;
-use crate::sizes::call_size;
+use sv_lines::{TakenLines, call_size};
 use sv_model::line::{Batch, Line, PassUse};
 use sv_model::refusal::{Cause, LimitName};
 use sv_range::List;
@@ -130,19 +129,19 @@ fn has_many_signals(line: &Line) -> bool
 }
 
 /// Whether the size of the work so far, and what this line adds to it, is past the limit.
-#[tactic(auto, using(crate::proofs::Sums::past_capped))]
-fn has_much_work(checker: &Checker, line: &Line) -> bool
-    ensures { result ≡ nat_lt 4000000 (spec.size_with checker.now line.now) }
+#[tactic(auto, using(sv_lines::proofs::Sums::past_capped))]
+fn has_much_work(taken: &TakenLines, line: &Line) -> bool
+    ensures { result ≡ nat_lt 4000000 (spec.size_with taken.now line.now) }
 {
-    checker.size().saturating_add(call_size(checker, line)) > SIZE
+    taken.size().saturating_add(call_size(taken, line)) > SIZE
 }
 
 /// The first limit of the list that the line passes.
 #[tactic(auto, unfolding(sv_rules::specs::Limits::passed_limit))]
-pub fn passed_limit(checker: &Checker, line: &Line) -> Option<Cause>
-    ensures { result ≡ spec.passed_limit checker.now line.now }
+pub fn passed_limit(taken: &TakenLines, line: &Line) -> Option<Cause>
+    ensures { result ≡ spec.passed_limit taken.now line.now }
 {
-    if checker.lines() >= LINES {
+    if taken.lines() >= LINES {
         limit(LimitName::Lines, LINES)
     } else if has_many_accesses(line) {
         limit(LimitName::Accesses, 64)
@@ -162,7 +161,7 @@ pub fn passed_limit(checker: &Checker, line: &Line) -> Option<Cause>
         limit(LimitName::Waits, 64)
     } else if has_many_signals(line) {
         limit(LimitName::Signals, 64)
-    } else if has_much_work(checker, line) {
+    } else if has_much_work(taken, line) {
         limit(LimitName::Size, SIZE)
     } else {
         None

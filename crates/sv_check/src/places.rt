@@ -3,66 +3,65 @@ ghost use Rattle.std.specs.Prelude.{◌≡◌, ℕ};
 ghost use Rattle.std.specs.List.{list_any};
 ghost use Rattle.sv_rules.specs.Places as spec;
 
-use crate::checker::Checker;
-use crate::elements::{is_misused_access, leaves_subpass, transfers, transfers_wrongly};
 use crate::named::recording_at;
+use sv_lines::{TakenLines, is_misused_access, leaves_subpass, transfers, transfers_wrongly};
 use sv_model::line::{Batch, Declared, Element, Line};
 use sv_rules::standing::{Standing, is_in_pass, is_in_rendering, is_inside};
 
-fn is_before_last(checker: &Checker, standing: Standing) -> bool
-    ensures { result ≡ spec.is_before_last checker.now.trace standing }
+fn is_before_last(taken: &TakenLines, standing: Standing) -> bool
+    ensures { result ≡ spec.is_before_last taken.now.trace standing }
 {
     match standing {
         Standing::InPass { pass, subpass } => {
-            u64::from(subpass) + 1 < checker.pass(pass).subpasses.len() as u64
+            u64::from(subpass) + 1 < taken.pass(pass).subpasses.len() as u64
         }
         _ => false,
     }
 }
 
-fn is_in_last(checker: &Checker, standing: Standing) -> bool
-    ensures { result ≡ spec.is_in_last checker.now.trace standing }
+fn is_in_last(taken: &TakenLines, standing: Standing) -> bool
+    ensures { result ≡ spec.is_in_last taken.now.trace standing }
 {
     match standing {
         Standing::InPass { pass, subpass } => {
-            u64::from(subpass) + 1 == checker.pass(pass).subpasses.len() as u64
+            u64::from(subpass) + 1 == taken.pass(pass).subpasses.len() as u64
         }
         _ => false,
     }
 }
 
-fn is_late_version(checker: &Checker, line: &Line) -> bool
-    ensures { result ≡ spec.is_late_version checker.now line.now }
+fn is_late_version(taken: &TakenLines, line: &Line) -> bool
+    ensures { result ≡ spec.is_late_version taken.now line.now }
 {
     match line {
-        Line::Version { .. } => checker.has_begun(),
+        Line::Version { .. } => taken.has_begun(),
         _ => false,
     }
 }
 
-fn begins_second(checker: &Checker, line: &Line) -> bool
-    ensures { result ≡ spec.begins_second checker.now.trace line.now }
+fn begins_second(taken: &TakenLines, line: &Line) -> bool
+    ensures { result ≡ spec.begins_second taken.now.trace line.now }
 {
     match line {
-        Line::Begin { recorder, .. } => checker.is_recording(*recorder),
+        Line::Begin { recorder, .. } => taken.is_recording(*recorder),
         _ => false,
     }
 }
 
-fn comes_after_end(checker: &Checker, line: &Line) -> bool
-    ensures { result ≡ spec.comes_after_end checker.now.trace line.now }
+fn comes_after_end(taken: &TakenLines, line: &Line) -> bool
+    ensures { result ≡ spec.comes_after_end taken.now.trace line.now }
 {
     match recording_at(line) {
-        Some(rec) => checker.has_ended(rec),
+        Some(rec) => taken.has_ended(rec),
         None => false,
     }
 }
 
-fn ends_in_scope(checker: &Checker, line: &Line) -> bool
-    ensures { result ≡ spec.ends_in_scope checker.now.trace line.now }
+fn ends_in_scope(taken: &TakenLines, line: &Line) -> bool
+    ensures { result ≡ spec.ends_in_scope taken.now.trace line.now }
 {
     match line {
-        Line::End { rec } => is_inside(checker.standing(*rec)),
+        Line::End { rec } => is_inside(taken.standing(*rec)),
         _ => false,
     }
 }
@@ -79,34 +78,34 @@ fn are_same(a: Option<u32>, b: Option<u32>) -> bool
     }
 }
 
-fn may_not_run(checker: &Checker, queue: u32, rec: u32) -> bool
-    ensures { result ≡ spec.may_not_run checker.now.trace queue rec }
+fn may_not_run(taken: &TakenLines, queue: u32, rec: u32) -> bool
+    ensures { result ≡ spec.may_not_run taken.now.trace queue rec }
 {
-    let family = checker.family_of_queue(queue);
-    !checker.has_ended(rec) || !are_same(checker.family_of_recording(rec), family)
+    let family = taken.family_of_queue(queue);
+    !taken.has_ended(rec) || !are_same(taken.family_of_recording(rec), family)
 }
 
-fn batch_may_not_run(checker: &Checker, queue: u32, batch: &Batch) -> bool
-    ensures { result ≡ spec.batch_may_not_run checker.now.trace queue batch.now }
+fn batch_may_not_run(taken: &TakenLines, queue: u32, batch: &Batch) -> bool
+    ensures { result ≡ spec.batch_may_not_run taken.now.trace queue batch.now }
 {
     let recs = batch.recs.as_slice();
-    recs.iter().any(|rec| may_not_run(checker, queue, *rec))
+    recs.iter().any(|rec| may_not_run(taken, queue, *rec))
 }
 
-fn any_may_not_run(checker: &Checker, queue: u32, batches: &[Batch]) -> bool
-    ensures { result ≡ list_any (spec.batch_may_not_run checker.now.trace queue) batches.now }
+fn any_may_not_run(taken: &TakenLines, queue: u32, batches: &[Batch]) -> bool
+    ensures { result ≡ list_any (spec.batch_may_not_run taken.now.trace queue) batches.now }
 {
     batches
         .iter()
-        .any(|batch| batch_may_not_run(checker, queue, batch))
+        .any(|batch| batch_may_not_run(taken, queue, batch))
 }
 
-fn submits_wrongly(checker: &Checker, line: &Line) -> bool
-    ensures { result ≡ spec.submits_wrongly checker.now.trace line.now }
+fn submits_wrongly(taken: &TakenLines, line: &Line) -> bool
+    ensures { result ≡ spec.submits_wrongly taken.now.trace line.now }
 {
     match line {
         Line::Submit { queue, batches, .. } => {
-            any_may_not_run(checker, *queue, batches.as_slice())
+            any_may_not_run(taken, *queue, batches.as_slice())
         }
         _ => false,
     }
@@ -124,13 +123,13 @@ fn any_transfers(deps: &[Element]) -> bool
     deps.iter().any(transfers)
 }
 
-fn has_wrong_transfer(checker: &Checker, line: &Line) -> bool
-    ensures { result ≡ spec.has_wrong_transfer checker.now.trace line.now }
+fn has_wrong_transfer(taken: &TakenLines, line: &Line) -> bool
+    ensures { result ≡ spec.has_wrong_transfer taken.now.trace line.now }
 {
     match line {
         Line::Barrier { rec, deps } => {
-            let family = checker.family_of_recording(*rec);
-            let inside = is_inside(checker.standing(*rec));
+            let family = taken.family_of_recording(*rec);
+            let inside = is_inside(taken.standing(*rec));
             any_transfers_wrongly(family, inside, deps.as_slice())
         }
         Line::SetEvent { deps, .. } => any_transfers(deps.as_slice()),
@@ -138,27 +137,27 @@ fn has_wrong_transfer(checker: &Checker, line: &Line) -> bool
     }
 }
 
-fn breaks_scope(checker: &Checker, line: &Line) -> bool
-    ensures { result ≡ spec.breaks_scope checker.now.trace line.now }
+fn breaks_scope(taken: &TakenLines, line: &Line) -> bool
+    ensures { result ≡ spec.breaks_scope taken.now.trace line.now }
 {
     match line {
-        Line::BeginRendering { rec, .. } => is_inside(checker.standing(*rec)),
-        Line::BeginPass { rec, .. } => is_inside(checker.standing(*rec)),
-        Line::EndRendering { rec } => !is_in_rendering(checker.standing(*rec)),
-        Line::NextSubpass { rec } => !is_before_last(checker, checker.standing(*rec)),
-        Line::EndPass { rec } => !is_in_last(checker, checker.standing(*rec)),
+        Line::BeginRendering { rec, .. } => is_inside(taken.standing(*rec)),
+        Line::BeginPass { rec, .. } => is_inside(taken.standing(*rec)),
+        Line::EndRendering { rec } => !is_in_rendering(taken.standing(*rec)),
+        Line::NextSubpass { rec } => !is_before_last(taken, taken.standing(*rec)),
+        Line::EndPass { rec } => !is_in_last(taken, taken.standing(*rec)),
         _ => false,
     }
 }
 
-fn is_forbidden_inside(checker: &Checker, line: &Line) -> bool
-    ensures { result ≡ spec.is_forbidden_inside checker.now.trace line.now }
+fn is_forbidden_inside(taken: &TakenLines, line: &Line) -> bool
+    ensures { result ≡ spec.is_forbidden_inside taken.now.trace line.now }
 {
     match line {
-        Line::Barrier { rec, .. } => is_in_rendering(checker.standing(*rec)),
-        Line::SetEvent { rec, .. } => is_inside(checker.standing(*rec)),
-        Line::WaitEvent { rec, .. } => is_inside(checker.standing(*rec)),
-        Line::ResetEvent { rec, .. } => is_inside(checker.standing(*rec)),
+        Line::Barrier { rec, .. } => is_in_rendering(taken.standing(*rec)),
+        Line::SetEvent { rec, .. } => is_inside(taken.standing(*rec)),
+        Line::WaitEvent { rec, .. } => is_inside(taken.standing(*rec)),
+        Line::ResetEvent { rec, .. } => is_inside(taken.standing(*rec)),
         _ => false,
     }
 }
@@ -169,12 +168,12 @@ fn any_leaves_subpass(deps: &[Element]) -> bool
     deps.iter().any(leaves_subpass)
 }
 
-fn breaks_subpass(checker: &Checker, line: &Line) -> bool
-    ensures { result ≡ spec.breaks_subpass checker.now.trace line.now }
+fn breaks_subpass(taken: &TakenLines, line: &Line) -> bool
+    ensures { result ≡ spec.breaks_subpass taken.now.trace line.now }
 {
     match line {
         Line::Barrier { rec, deps } => {
-            is_in_pass(checker.standing(*rec)) && any_leaves_subpass(deps.as_slice())
+            is_in_pass(taken.standing(*rec)) && any_leaves_subpass(deps.as_slice())
         }
         _ => false,
     }
@@ -186,44 +185,45 @@ fn any_misused(inside: bool, accesses: &[Declared]) -> bool
     accesses.iter().any(|a| is_misused_access(inside, a))
 }
 
-fn has_wrong_usage(checker: &Checker, line: &Line) -> bool
-    ensures { result ≡ spec.has_wrong_usage checker.now.trace line.now }
+fn has_wrong_usage(taken: &TakenLines, line: &Line) -> bool
+    ensures { result ≡ spec.has_wrong_usage taken.now.trace line.now }
 {
     match line {
         Line::Work { rec, accesses } => {
-            any_misused(is_inside(checker.standing(*rec)), accesses.as_slice())
+            any_misused(is_inside(taken.standing(*rec)), accesses.as_slice())
         }
         _ => false,
     }
 }
 
-fn has_wrong_views(checker: &Checker, line: &Line) -> bool
-    ensures { result ≡ spec.has_wrong_views checker.now.trace line.now }
+fn has_wrong_views(taken: &TakenLines, line: &Line) -> bool
+    ensures { result ≡ spec.has_wrong_views taken.now.trace line.now }
 {
     match line {
         Line::BeginPass { pass, views, .. } => {
-            !(views.len() == checker.pass(*pass).attachments.len())
+            !(views.len() == taken.pass(*pass).attachments.len())
         }
         _ => false,
     }
 }
 
-/// Whether the line may not stand where it stands. `unclear` says whether it has an unclear use of an attachment.
+/// Whether the line may not stand where it stands. `unclear` says whether it has an unclear use of an
+/// attachment.
 #[tactic(auto, unfolding(sv_rules::specs::Places::is_misplaced))]
-pub fn is_misplaced(checker: &Checker, line: &Line, unclear: bool) -> bool
+pub fn is_misplaced(taken: &TakenLines, line: &Line, unclear: bool) -> bool
     requires { unclear ≡ spec.has_unclear_use line.now }
-    ensures { result ≡ spec.is_misplaced checker.now line.now }
+    ensures { result ≡ spec.is_misplaced taken.now line.now }
 {
-    is_late_version(checker, line)
-        || begins_second(checker, line)
-        || comes_after_end(checker, line)
-        || ends_in_scope(checker, line)
-        || submits_wrongly(checker, line)
-        || has_wrong_transfer(checker, line)
-        || breaks_scope(checker, line)
-        || is_forbidden_inside(checker, line)
-        || breaks_subpass(checker, line)
-        || has_wrong_usage(checker, line)
-        || has_wrong_views(checker, line)
+    is_late_version(taken, line)
+        || begins_second(taken, line)
+        || comes_after_end(taken, line)
+        || ends_in_scope(taken, line)
+        || submits_wrongly(taken, line)
+        || has_wrong_transfer(taken, line)
+        || breaks_scope(taken, line)
+        || is_forbidden_inside(taken, line)
+        || breaks_subpass(taken, line)
+        || has_wrong_usage(taken, line)
+        || has_wrong_views(taken, line)
         || unclear
 }

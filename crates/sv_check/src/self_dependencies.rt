@@ -1,12 +1,12 @@
 //! Barriers inside a subpass.
 ghost use Rattle.std.specs.Prelude.{◌≡◌};
 ghost use Rattle.std.specs.List.{list_any};
-ghost use Rattle.sv_model.specs.RenderPasses.{is_subpass};
+ghost use Rattle.sv_model.specs.Passes.{is_subpass};
 ghost use Rattle.sv_model.specs.LawfulCommands.{contains_element};
 ghost use Rattle.sv_rules.specs.SelfDependencies as spec;
 
-use crate::checker::Checker;
 use sv_expand::is_within;
+use sv_lines::TakenLines;
 use sv_model::line::{Element, Line, PassDep};
 use sv_rules::standing::Standing;
 
@@ -45,25 +45,26 @@ fn any_uncontained(i: u32, deps: &[PassDep], elements: &[Element]) -> bool
     elements.iter().any(|e| is_uncontained(i, deps, e))
 }
 
-fn some_uncontained(checker: &Checker, standing: Standing, elements: &[Element]) -> bool
-    ensures { result ≡ spec.some_uncontained checker.now.trace standing elements.now }
+fn some_uncontained(taken: &TakenLines, standing: Standing, elements: &[Element]) -> bool
+    ensures { result ≡ spec.some_uncontained taken.now.trace standing elements.now }
 {
     match standing {
         Standing::InPass { pass, subpass } => {
-            any_uncontained(subpass, checker.pass(pass).deps, elements)
+            any_uncontained(subpass, taken.pass(pass).deps, elements)
         }
         _ => false,
     }
 }
 
-/// Whether the line is a barrier inside a subpass, with an element that no self-dependency of the subpass contains.
+/// Whether the line is a barrier inside a subpass, with an element that no self-dependency of the subpass
+/// contains.
 #[tactic(auto, unfolding(sv_rules::specs::SelfDependencies::is_without_self_dependency))]
-pub fn is_without_self_dependency(checker: &Checker, line: &Line) -> bool
-    ensures { result ≡ spec.is_without_self_dependency checker.now.trace line.now }
+pub fn is_without_self_dependency(taken: &TakenLines, line: &Line) -> bool
+    ensures { result ≡ spec.is_without_self_dependency taken.now.trace line.now }
 {
     match line {
         Line::Barrier { rec, deps } => {
-            some_uncontained(checker, checker.standing(*rec), deps.as_slice())
+            some_uncontained(taken, taken.standing(*rec), deps.as_slice())
         }
         _ => false,
     }

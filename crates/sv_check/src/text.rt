@@ -4,7 +4,7 @@ ghost use Rattle.sv_model.specs.Lawful.{IsLawful};
 ghost use Rattle.sv_trace.specs.Text.{lines_of};
 ghost use Rattle.sv_check.specs.Telling.{TakesBytes, Tells};
 
-use crate::lawful::Checker;
+use crate::checker::Checker;
 use std::alloc::Global;
 use sv_model::line::Trace;
 use sv_model::refusal::Fault;

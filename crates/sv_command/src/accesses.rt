@@ -1,9 +1,9 @@
 //! The accesses of a `work`.
 ghost use Rattle.std.specs.Prelude.{◌≡◌, map, IfOk, All, unwrap_or};
 ghost use Rattle.sv_mask.specs.Usages.{usage_of, stage_number, access_number};
-ghost use Rattle.sv_model.specs.Compile as spec;
+ghost use Rattle.sv_model.specs.Recordings as spec;
 ghost use Rattle.sv_model.specs.LawfulCommands.{IsShort, declared_usage};
-ghost use Rattle.sv_model.specs.Numbering.{accesses_from};
+ghost use Rattle.sv_model.specs.Positions.{accesses_from};
 ghost use Rattle.sv_model.specs.Plain.{AccessFits};
 
 use crate::barriers::{area_of, place_of, subpass_of};
@@ -48,7 +48,8 @@ pub fn accesses(
 ) -> Result<List<Access>, AllocError>
     requires short { IsShort declared.now }
     requires fit { All AccessFits declared.now }
-    ensures { IfOk result (λ accesses. accesses ≡ accesses_from here.step 0 (map (spec.declared_access here) declared.now)) }
+    ensures { IfOk result (λ accesses. accesses ≡ accesses_from here.step 0
+        (map (spec.declared_access here) declared.now)) }
 {
     let mut accesses = List::with_capacity(alloc, declared.len())?;
     let mut pos = 0;

@@ -1,7 +1,7 @@
 //! The groups of a barrier, one for each of its elements.
 ghost use Rattle.std.specs.Prelude.{◌≡◌, ◌<◌, ◌≤◌, ◌^◌, [], ◌∷◌, map, length, option_to_list, IfOk, All};
 ghost use Rattle.sv_model.specs.Barriers as spec;
-ghost use Rattle.sv_model.specs.Numbering.{groups_from, numbered_group};
+ghost use Rattle.sv_model.specs.Positions.{groups_from, numbered_group};
 ghost use Rattle.sv_model.specs.LawfulCommands.{IsShort};
 ghost use Rattle.sv_model.specs.Plain.{ElementFits};
 
@@ -23,7 +23,8 @@ fn group_with(
     transfer: Option<Transfer>,
     pos: u32,
 ) -> Result<Group, AllocError>
-    ensures { IfOk result (λ group. group ≡ numbered_group here.step pos (spec.group_with (spec.place_of here) dep (option_to_list old) transfer)) }
+    ensures { IfOk result (λ group. group ≡ numbered_group here.step pos
+        (spec.group_with (spec.place_of here) dep (option_to_list old) transfer)) }
 {
     let moving = moving(transfer, old);
     let mut deps = List::new(alloc);
@@ -79,7 +80,8 @@ fn element_group(alloc: Global, here: Here, element: Element, pos: u32) -> Resul
 pub fn groups(alloc: Global, elements: &[Element], here: Here) -> Result<List<Group>, AllocError>
     requires short { IsShort elements.now }
     requires fit { All ElementFits elements.now }
-    ensures { IfOk result (λ groups. groups ≡ groups_from here.step 0 (map (spec.element_group here) elements.now)) }
+    ensures { IfOk result (λ groups. groups ≡ groups_from here.step 0
+        (map (spec.element_group here) elements.now)) }
 {
     let mut groups = List::with_capacity(alloc, elements.len())?;
     let mut pos = 0;

@@ -1,10 +1,14 @@
 //! The lowering of the commands that begin, go on in and end no render scope.
+//!
+//! - knows one command outside of every render scope
+//! - definitions: `Recordings` and `Barriers` of `sv_model`
+//! - used by `sv_record`
 #![tactic(auto)]
 
 ghost use Rattle.std.specs.Prelude.{◌≡◌, IfOk};
 ghost use Rattle.sv_model.specs.declared.line.Trace.{Trace};
-ghost use Rattle.sv_model.specs.Compile.{Scope};
-ghost use Rattle.sv_model.specs.Compile as definition;
+ghost use Rattle.sv_model.specs.Recordings.{Scope};
+ghost use Rattle.sv_model.specs.Recordings as definition;
 ghost use Rattle.sv_model.specs.Plain.{IsPlain};
 
 mod accesses;
@@ -29,7 +33,8 @@ use sv_range::List;
 /// and scope it stands in, the steps are those of the definition. Fails only for want of memory.
 pub fn lower(alloc: Global, command: &Command, here: &Here) -> Result<List<Step>, AllocError>
     requires { IsPlain command.now }
-    ensures { IfOk result (λ steps. (t : Trace) (scope : Scope) → steps ≡ definition.lower t here.now scope command.now) }
+    ensures { IfOk result (λ steps. (t : Trace) (scope : Scope) → steps
+        ≡ definition.lower t here.now scope command.now) }
 {
     let place = barriers::place_of(*here);
     let mut steps = List::new(alloc);

@@ -1,4 +1,5 @@
-//! Answers on ample memory. The expected values are worked out by hand from the tables of stages and accesses.
+//! Answers on ample memory. The expected values are worked out by hand from the tables of stages and
+//! accesses.
 ghost use Rattle.std.specs.Prelude.{◌≡◌, [], ◌∷◌, IfOk};
 ghost use Rattle.sv_model.specs.Plain.{ElementFits};
 

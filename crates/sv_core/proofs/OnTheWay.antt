@@ -1,12 +1,11 @@
 -- From a history to the next: before any item of the event, after one more, after the last.
-use Rattle.std.proofs.Common.{ℕ, ◌≡◌, List, [], ◌++◌, Some, length, refl, sym, ap, subst, arith, append-nil, Contains}
+use Rattle.std.proofs.Common.{ℕ, ◌≡◌, List, [], ◌++◌, Some, length, refl, sym, ap, subst, arith, append-nil}
 use Rattle.std.proofs.lemmas.List.{length-map}
 use Rattle.std.proofs.lemmas.List.Elements.{All-nil}
-use Rattle.sv_model.specs.Binding.{Bound}
-use Rattle.sv_model.specs.Enabled.{past}
-use Rattle.sv_model.specs.Flow.{Flow, Holding, arrived, flow, items_of, next}
+use Rattle.sv_model.specs.Places.{Bound}
+use Rattle.sv_model.specs.Holding.{past, Flow, Holding, arrived, flow, items_of, next}
 use Rattle.sv_model.specs.Laws.{left_by_items}
-use Rattle.sv_model.specs.Made.{Made}
+use Rattle.sv_model.specs.Processed.{Made}
 use Rattle.sv_model.specs.Notes.{cells_of_notes}
 use Rattle.sv_model.specs.Reports.{AreNumbered, AreReportsFrom, IsRun, spots_of}
 use Rattle.sv_model.specs.Work.{made, work}
@@ -17,15 +16,16 @@ use Rattle.sv_model.specs.declared.work.Report.{Report}
 use Rattle.sv_model.proofs.Works.{work_below}
 use Rattle.sv_gate.specs.Gates.{IsGateOf}
 use Rattle.sv_space.specs.Steps.{AreInOrder}
-use Rattle.sv_reply.specs.Replying.{IsNoteBelow, IsReplySoFar, steps_in}
-use Rattle.sv_checks.specs.Checked.{StandForSteps}
-use Rattle.sv_work.specs.Works.{IsAt, IsLeft}
-use Rattle.sv_onward.specs.Ways.{added, left_at, longer, taken_now, with_item}
-use Rattle.sv_onward.proofs.Onward.{ways_begin, ways_end, ways_go_on}
-use Rattle.sv_onward.proofs.WholeReplies.{replies_are_whole}
+use Rattle.sv_replies.specs.Replying.{IsNoteBelow, IsReplySoFar, steps_in}
+use Rattle.sv_steps.specs.Checked.{StandForSteps}
+use Rattle.sv_processed.specs.Works.{IsAt, IsLeft}
+use Rattle.sv_history_laws.specs.Ways.{added, left_at, longer, taken_now, with_item}
+use Rattle.sv_history_laws.proofs.Onward.{ways_begin, ways_end, ways_go_on}
+use Rattle.sv_history_laws.proofs.WholeReplies.{replies_are_whole}
 use Rattle.sv_batch.specs.Running.{ArePublished}
-use Rattle.sv_core.specs.Standing.{IsOnTheWay, StandsForHistory, WaysEndWell}
+use Rattle.sv_core.specs.Standing.{HasEnded, IsOnTheWay, StandsForHistory}
 use Rattle.sv_core.specs.declared.parts.Parts.{Parts}
+use Rattle.sv_step_laws.proofs.Areas.{in_nothing}
 
 no_spots : spots_of [] ≡ []
 unfolding spots_of
@@ -35,11 +35,9 @@ no_cells : cells_of_notes [] ≡ []
 unfolding cells_of_notes
 no_cells = refl
 
-in_nothing : {X : Type 0} (x : X) → Contains [] x → ⊥
-in_nothing x on = let h = on.1 in omega arith
-
 -- an event that released nothing yet is answered nothing
-pub nothing_so_far : (t : Trace) (event : ℕ) (old : List Bound) → AreInOrder (steps_in old) → IsReplySoFar t event old [] (record { reports = []; notes = [] })
+pub nothing_so_far : (t : Trace) (event : ℕ) (old : List Bound) → AreInOrder (steps_in old)
+    → IsReplySoFar t event old [] (record { reports = []; notes = [] })
 nothing_so_far t event old in_order = record {
   reports = subst (AreReportsFrom (length old) (steps_in (old ++ []))) (sym no_spots) (record {
     only = λ s on. absurd (in_nothing s on);
@@ -61,8 +59,12 @@ nothing_so_far t event old in_order = record {
     ordered = subst (λ (bs : List Bound). AreInOrder (steps_in bs)) (sym (append-nil old)) in_order
 
 -- before any item of the event: it arrived, and nothing is answered yet
-pub way_begins : (t : Trace) (history : List Mark) (m : Mark) (before after : Parts) → StandsForHistory t history before → IsGateOf t (arrived (flow t history) m).holding after.gate → ArePublished t (longer history m) after.recordings
-    → IsLeft t (left_by_items t history (flow t history).done) after.work → StandForSteps t (work t history) after.work.checks → after.work.checks.reply ≡ record { reports = []; notes = [] } → IsOnTheWay t history m after
+pub way_begins : (t : Trace) (history : List Mark) (m : Mark) (before after : Parts)
+    → StandsForHistory t history before → IsGateOf t (arrived (flow t history) m).holding after.gate
+    → ArePublished t (longer history m) after.recordings
+    → IsLeft t (left_by_items t history (flow t history).done) after.work
+    → StandForSteps t (work t history) after.work.checks → after.work.checks.reply
+    ≡ record { reports = []; notes = [] } → IsOnTheWay t history m after
 way_begins t history m before after stands gate recordings left steps empty =
     let begins = ways_begin t history m in record {
       now = arrived (flow t history) m;
@@ -72,15 +74,21 @@ way_begins t history m before after stands gate recordings left steps empty =
       recordings = recordings;
       at = record {
         left = subst (λ (k : Made). IsLeft t k after.work) (sym begins.left) left;
-        steps = subst (λ (bs : List Bound). StandForSteps t bs after.work.checks) (sym (append-nil (work t history))) steps;
-        reply = subst (IsReplySoFar t (length history) (work t history) []) (sym empty) (nothing_so_far t (length history) (work t history) steps.in_order);
+        steps = subst (λ (bs : List Bound). StandForSteps t bs after.work.checks)
+            (sym (append-nil (work t history))) steps;
+        reply = subst (IsReplySoFar t (length history) (work t history) []) (sym empty)
+            (nothing_so_far t (length history) (work t history) steps.in_order);
       };
     }
 
 -- one more item was taken by the gate, and its steps and what it leaves by the work
-pub way_goes_on : (t : Trace) (history : List Mark) (m : Mark) (before : Parts) (is : IsOnTheWay t history m before) (item : Item) (holding : Holding) → next t (past t is.now.holding.events (items_of is.now.done)) is.now.holding ≡ Some (item, holding)
+pub way_goes_on : (t : Trace) (history : List Mark) (m : Mark) (before : Parts)
+    (is : IsOnTheWay t history m before) (item : Item) (holding : Holding)
+    → next t (past t is.now.holding.events (items_of is.now.done)) is.now.holding ≡ Some (item, holding)
     → (after : Parts) → IsGateOf t holding after.gate → after.recordings ≡ before.recordings
-    → IsAt t (length history) (work t history) (is.more ++ added t history m is.now is.more item) (made t (longer history m) (left_at t history m is.now) (taken_now is.now item)) after.work → IsOnTheWay t history m after
+    → IsAt t (length history) (work t history) (is.more ++ added t history m is.now is.more item)
+    (made t (longer history m) (left_at t history m is.now) (taken_now is.now item)) after.work
+    → IsOnTheWay t history m after
 way_goes_on t history m before is item holding e after gate same at =
     let goes = ways_go_on t history m is.now is.more item holding is.way e in record {
       now = with_item is.now item holding;
@@ -88,17 +96,21 @@ way_goes_on t history m before is item holding e after gate same at =
       way = goes.way;
       gate = gate;
       recordings = subst (ArePublished t (longer history m)) (sym same) is.recordings;
-      at = subst (λ (k : Made). IsAt t (length history) (work t history) (is.more ++ added t history m is.now is.more item) k after.work) (sym goes.left) at;
+      at = subst (λ (k : Made). IsAt t (length history) (work t history)
+          (is.more ++ added t history m is.now is.more item) k after.work) (sym goes.left) at;
     }
 
 -- nothing is enabled any more
-pub way_ends : WaysEndWell
+pub way_ends : (t : Trace) (history : List Mark) (m : Mark) (p : Parts) (is : IsOnTheWay t history m p)
+    → next t (past t is.now.holding.events (items_of is.now.done)) is.now.holding ≡ None
+    → HasEnded t history m p
 way_ends t history m p is e =
     let ends = ways_end t history m is.now is.more is.way e in record {
       stands = record {
         gate = subst (λ (s : Flow). IsGateOf t s.holding p.gate) ends.flow is.gate;
         recordings = is.recordings;
-        left = subst (λ (s : Flow). IsLeft t (left_by_items t (longer history m) s.done) p.work) ends.flow is.at.left;
+        left = subst (λ (s : Flow). IsLeft t (left_by_items t (longer history m) s.done) p.work) ends.flow
+            is.at.left;
         steps = subst (λ (bs : List Bound). StandForSteps t bs p.work.checks) (sym ends.work) is.at.steps;
       };
       reply = replies_are_whole t history m is.more p.work.checks.reply ends.work is.at.reply;

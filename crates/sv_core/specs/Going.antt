@@ -4,8 +4,8 @@ use Rattle.sv_model.specs.Lawful.{IsLawful}
 use Rattle.sv_model.specs.declared.line.Mark.{Mark}
 use Rattle.sv_model.specs.declared.line.Trace.{Trace}
 use Rattle.sv_model.specs.declared.recorded.Event.{Event}
-use Rattle.sv_work.specs.Works.{WorkFits}
-use Rattle.sv_onward.specs.Ways.{longer}
+use Rattle.sv_processed.specs.Works.{WorkFits}
+use Rattle.sv_history_laws.specs.Ways.{longer}
 use Rattle.sv_core.specs.Marks.{IsOwn, mark_of}
 use Rattle.sv_core.specs.Standing.{HasEnded, IsOnTheWay, StandsForHistory}
 use Rattle.sv_core.specs.declared.parts.Parts.{Parts}

@@ -2,11 +2,11 @@
 use Rattle.std.specs.Prelude.{◌≡◌, ℕ, List, ◌++◌, true, Option, Some, None, length}
 use Rattle.std.specs.List.{All}
 use Rattle.sv_model.specs.Batches.{batch_given, batch_made}
-use Rattle.sv_model.specs.Binding.{Bound}
+use Rattle.sv_model.specs.Places.{Bound}
 use Rattle.sv_model.specs.Declarations.{call_of, is_fence}
-use Rattle.sv_model.specs.Enabled.{batch_ready}
+use Rattle.sv_model.specs.Semaphores.{batch_ready}
 use Rattle.sv_model.specs.History.{batch_at}
-use Rattle.sv_model.specs.Made.{Made}
+use Rattle.sv_model.specs.Processed.{Made}
 use Rattle.sv_model.specs.Work.{numbered}
 use Rattle.sv_model.specs.declared.line.Batch.{Batch}
 use Rattle.sv_model.specs.declared.line.Line.{Line}
@@ -14,10 +14,10 @@ use Rattle.sv_model.specs.declared.line.Mark.{Mark}
 use Rattle.sv_model.specs.declared.line.Trace.{Trace}
 use Rattle.sv_model.specs.declared.work.Item.{Item}
 use Rattle.sv_model.specs.declared.work.Item.TheVariants as item
-use Rattle.sv_bound.specs.Runs.{run_for}
-use Rattle.sv_bound.specs.declared.run.Run.{Run}
-use Rattle.sv_work.specs.Works.{IsAt}
-use Rattle.sv_work.specs.declared.work.Work.{Work}
+use Rattle.sv_binding.specs.Runs.{run_for}
+use Rattle.sv_binding.specs.declared.run.Run.{Run}
+use Rattle.sv_processed.specs.Works.{IsAt}
+use Rattle.sv_processed.specs.declared.work.Work.{Work}
 use Rattle.sv_gate.specs.Kept.{IsBatchOf, past_of}
 use Rattle.sv_batch.specs.Running.{IsThere}
 use Rattle.sv_core.specs.Taking.{NamesFence}
@@ -41,5 +41,7 @@ IsRunnable t history r m (item.Call lane index) = CallNamesFence t (call_of t la
 
 -- the steps of that batch are added, where it is ready
 abbrev pub IsBatchAfter : Trace → ℕ → Recordings → Run → Batch → Work → Work → Type 0
-IsBatchAfter t event recordings r b before after = (old more : List Bound) (m : Made) → IsReadyBatch t recordings m b → IsAt t event old more m before
-    → IsAt t event old (more ++ numbered (length (old ++ more)) (batch_given t (run_for event r) m b)) (batch_made t (run_for event r) m b) after
+IsBatchAfter t event recordings r b before after = (old more : List Bound) (m : Made)
+    → IsReadyBatch t recordings m b → IsAt t event old more m before
+    → IsAt t event old (more ++ numbered (length (old ++ more)) (batch_given t (run_for event r) m b))
+    (batch_made t (run_for event r) m b) after

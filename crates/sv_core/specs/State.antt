@@ -12,12 +12,13 @@ use Rattle.sv_space.specs.declared.space.Space.{Space}
 use Rattle.sv_core.specs.Going.{AreReadyUnlessSpent}
 use Rattle.sv_core.specs.declared.parts.Parts.{Parts}
 
--- The trace, the history, the replies, and whether it is spent.
+-- The trace, the history, the replies, whether it is spent, and its space.
 pub record State : Type 0 where
   pub trace : Trace
   pub history : List Mark
   pub replies : List Reply
   pub spent : Bool
+  pub space : Space
 
 -- the space has the resources of the trace, and stands for the work of the history
 pub record IsSpaceAfter (t : Trace) (history : List Mark) (space : Space) : Type 0 where
@@ -25,8 +26,8 @@ pub record IsSpaceAfter (t : Trace) (history : List Mark) (space : Space) : Type
   pub resources : HasResources t space
 
 -- so it is with the space of a validator that is not spent
-abbrev pub IsSpaceIn : State → Space → Type 0
-IsSpaceIn v space = v.spent ≡ false → IsSpaceAfter v.trace v.history space
+abbrev pub HasItsSpace : State → Type 0
+HasItsSpace v = v.spent ≡ false → IsSpaceAfter v.trace v.history v.space
 
 -- the history of a spent validator lacks the event that it stopped at
 abbrev pub LacksIfSpent : Bool → Trace → List Mark → Type 0
@@ -34,7 +35,8 @@ LacksIfSpent true t history = ¬ IsWhole t history
 LacksIfSpent false t history = Unit {0}
 
 -- What holds of every validator.
-pub record Holds (t : Trace) (history : List Mark) (replies : List Reply) (spent : Bool) (p : Parts) : Type 0 where
+pub record Holds (t : Trace) (history : List Mark) (replies : List Reply) (spent : Bool)
+    (p : Parts) : Type 0 where
   pub lawful : IsLawful t
   pub is_history : IsHistory t history
   pub answered : AreReplies t history replies

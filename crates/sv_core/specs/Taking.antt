@@ -1,8 +1,8 @@
 -- Items that are taken: their bound steps are added to the work, and what they leave is left.
 use Rattle.std.specs.Prelude.{ℕ, Bool, List, [], ◌∷◌, ◌++◌, map, length, if◌then◌else◌}
 use Rattle.sv_mask.specs.Scopes.{device_stages, device_usages, with_signal}
-use Rattle.sv_model.specs.Binding.{Bound}
-use Rattle.sv_model.specs.Made.{Made}
+use Rattle.sv_model.specs.Places.{Bound}
+use Rattle.sv_model.specs.Processed.{Made}
 use Rattle.sv_model.specs.QueueGroups.{from_token, group_from}
 use Rattle.sv_model.specs.Work.{numbered}
 use Rattle.sv_model.specs.declared.line.Line.{Line}
@@ -13,8 +13,8 @@ use Rattle.sv_model.specs.declared.work.Note.TheVariants as note
 use Rattle.sv_model.specs.declared.work.Place.{Place}
 use Rattle.sv_model.specs.declared.work.Track.TheVariants.{Queue}
 use Rattle.sv_gate.specs.Calls.{NamesItsFence, call_in}
-use Rattle.sv_work.specs.Works.{IsAt}
-use Rattle.sv_work.specs.declared.work.Work.{Work}
+use Rattle.sv_processed.specs.Works.{IsAt}
+use Rattle.sv_processed.specs.declared.work.Work.{Work}
 
 -- from a token to all that comes later on these queues
 abbrev pub token_groups : Place → ℕ → List ℕ → List Group
@@ -22,15 +22,19 @@ token_groups place token queues = map (λ (q : ℕ). from_token place token q de
 
 -- all that queue p did, before all that comes later on these queues
 abbrev pub queue_groups_on : Place → List ℕ → ℕ → List Group
-queue_groups_on place queues p = map (λ (q : ℕ). group_from place (Queue p) (with_signal device_stages) device_usages (Queue q) device_stages device_usages) queues
+queue_groups_on place queues p = map (λ (q : ℕ). group_from place (Queue p)
+    (with_signal device_stages) device_usages (Queue q) device_stages device_usages) queues
 
 -- a note where the fence was signalled already
 abbrev pub notes_where : Bool → ℕ → ℕ → List Note
-notes_where was fence event = if was then note.Fence (record { fence = fence; event = event; reports_before = 0 }) ∷ [] else []
+notes_where was fence event = if was then note.Fence
+    (record { fence = fence; event = event; reports_before = 0 }) ∷ [] else []
 
 -- These bound steps are added, and that is left.
 abbrev pub IsAfter : Trace → ℕ → (Made → List Bound) → (Made → Made) → Work → Work → Type 0
-IsAfter t event given made before after = (old more : List Bound) (m : Made) → IsAt t event old more m before → IsAt t event old (more ++ numbered (length (old ++ more)) (given m)) (made m) after
+IsAfter t event given made before after = (old more : List Bound) (m : Made)
+    → IsAt t event old more m before → IsAt t event old (more ++ numbered (length (old ++ more)) (given m))
+    (made m) after
 
 -- a wait names a declared fence
 abbrev pub NamesFence : Trace → Line → Type 0

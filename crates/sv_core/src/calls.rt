@@ -4,26 +4,28 @@ ghost use Rattle.std.specs.List.{All, filter_map, flat_map};
 ghost use Rattle.sv_mask.specs.Scopes as scopes;
 ghost use Rattle.sv_mask.specs.Scopes.{with_signal};
 ghost use Rattle.sv_model.specs.Declarations.{is_fence, queue_number, queues_of};
-ghost use Rattle.sv_model.specs.HostCalls as spec;
-ghost use Rattle.sv_model.specs.Made.{Made, fence_reset, fence_signaled, fence_state};
+ghost use Rattle.sv_model.specs.HostWaits as spec;
+ghost use Rattle.sv_model.specs.Fences as fences_spec;
+ghost use Rattle.sv_model.specs.Processed.{Made};
+ghost use Rattle.sv_model.specs.Fences.{fence_reset, fence_signaled, fence_state};
 ghost use Rattle.sv_model.specs.QueueGroups as groups;
 ghost use Rattle.sv_model.specs.declared.line.Trace.{Trace};
 ghost use Rattle.sv_model.specs.declared.work.Step.TheVariants as step;
 ghost use Rattle.sv_model.specs.declared.work.Track.TheVariants as track;
-ghost use Rattle.sv_bound.specs.Runs.{run_for};
-ghost use Rattle.sv_reply.specs.Replying.{IsOnNone};
-ghost use Rattle.sv_work.specs.Works.{MayTake, WorkFits};
+ghost use Rattle.sv_binding.specs.Runs.{run_for};
+ghost use Rattle.sv_replies.specs.Replying.{IsOnNone};
+ghost use Rattle.sv_processed.specs.Works.{MayTake, WorkFits};
 ghost use Rattle.sv_core.specs.Taking.{IsAfter, NamesFence, notes_where, queue_groups_on, token_groups};
 
 use std::alloc::{AllocError, Global};
-use sv_bound::{
+use sv_binding::{
     Run, Side, device_side, device_stages, device_usages, from_token, group_from, place_in,
     queue_number, sum, to_token,
 };
 use sv_model::line::{Line, Trace};
 use sv_model::work::{FenceNote, FenceState, Group, Note, Place, Track};
+use sv_processed::Work;
 use sv_range::List;
-use sv_work::Work;
 
 fn push_some(queues: &mut List<u32>, queue: Option<u32>) -> Result<(), AllocError>
     ensures { OnOk result (queues.new ≡ queues.old ++ option_to_list queue) }
@@ -47,7 +49,11 @@ fn queue_numbers(alloc: Global, lines: &[Line]) -> Result<List<u32>, AllocError>
 
 // All that the queue did, its signals too.
 fn queue_side(queue: u32) -> Side
-    ensures { result ≡ record { track = track.Queue queue; stages = with_signal scopes.device_stages; usages = scopes.device_usages } }
+    ensures { result ≡ record {
+      track = track.Queue queue;
+      stages = with_signal scopes.device_stages;
+      usages = scopes.device_usages;
+    } }
 {
     Side {
         track: Track::Queue(queue),
@@ -126,7 +132,8 @@ fn fence_notes(alloc: Global, was: bool, fence: u32, event: u64) -> Result<List<
 
 // From all that the queue did to a token.
 fn fence_groups(alloc: Global, run: Run, token: u64) -> Result<List<Group>, AllocError>
-    ensures { IfOk result (λ list. list ≡ groups.to_token (groups.place_in (run_for 0 run)) run.queue (with_signal scopes.device_stages) scopes.device_usages token ∷ []) }
+    ensures { IfOk result (λ list. list ≡ groups.to_token (groups.place_in (run_for 0 run)) run.queue
+        (with_signal scopes.device_stages) scopes.device_usages token ∷ []) }
 {
     let mut groups = List::new(alloc);
     groups.push_or_drop(to_token(alloc, place_in(run), queue_side(run.queue), token)?)?;
@@ -137,7 +144,9 @@ fn fence_groups(alloc: Global, run: Run, token: u64) -> Result<List<Group>, Allo
 pub fn take_fence(work: &mut Work, run: Run, fence: u32) -> Result<(), AllocError>
     requires { MayTake work.old (step.Groups []) }
     ensures fits { OnOk result ((t : Trace) → WorkFits t work.old → WorkFits t work.new) }
-    ensures at { OnOk result ((t : Trace) (event : ℕ) → is_fence t fence ≡ true → IsAfter t event (λ (m : Made). spec.fence_given t (run_for event run) m fence) (λ (m : Made). fence_signaled m fence) work.old work.new) }
+    ensures at { OnOk result ((t : Trace) (event : ℕ) → is_fence t fence ≡ true
+        → IsAfter t event (λ (m : Made). fences_spec.fence_given t (run_for event run) m fence)
+        (λ (m : Made). fence_signaled m fence) work.old work.new) }
 {
     let token = work.tokens;
     let groups = fence_groups(work.alloc, run, token)?;
@@ -151,7 +160,9 @@ pub fn take_fence(work: &mut Work, run: Run, fence: u32) -> Result<(), AllocErro
 fn take_fence_wait(work: &mut Work, trace: &Trace, run: Run, fence: u32) -> Result<(), AllocError>
     requires { MayTake work.old (step.Groups []) }
     ensures fits { OnOk result ((t : Trace) → WorkFits t work.old → WorkFits t work.new) }
-    ensures at { OnOk result ((event : ℕ) → is_fence trace.now fence ≡ true → IsAfter trace.now event (λ (m : Made). spec.fence_waited trace.now (run_for event run) (fence_state trace.now m fence)) (λ (m : Made). m) work.old work.new) }
+    ensures at { OnOk result ((event : ℕ) → is_fence trace.now fence ≡ true
+        → IsAfter trace.now event (λ (m : Made). spec.fence_waited trace.now (run_for event run)
+        (fence_state trace.now m fence)) (λ (m : Made). m) work.old work.new) }
 {
     match work.fences.state(fence) {
         FenceState::Token(token) => {
@@ -167,7 +178,9 @@ fn take_fence_wait(work: &mut Work, trace: &Trace, run: Run, fence: u32) -> Resu
 fn take_queue_wait(work: &mut Work, trace: &Trace, run: Run, queue: u32) -> Result<(), AllocError>
     requires { MayTake work.old (step.Groups []) }
     ensures fits { OnOk result ((t : Trace) → WorkFits t work.old → WorkFits t work.new) }
-    ensures at { OnOk result ((event : ℕ) → IsAfter trace.now event (λ (m : Made). spec.host_step (run_for event run) (spec.queue_groups trace.now (run_for event run) queue)) (λ (m : Made). m) work.old work.new) }
+    ensures at { OnOk result ((event : ℕ) → IsAfter trace.now event
+        (λ (m : Made). spec.host_step (run_for event run)
+        (spec.queue_groups trace.now (run_for event run) queue)) (λ (m : Made). m) work.old work.new) }
 {
     let queues = queue_numbers(work.alloc, trace.queues.as_slice())?;
     let groups = queue_groups(work.alloc, queues.as_slice(), place_in(run), queue)?;
@@ -177,7 +190,10 @@ fn take_queue_wait(work: &mut Work, trace: &Trace, run: Run, queue: u32) -> Resu
 fn take_device_wait(work: &mut Work, trace: &Trace, run: Run) -> Result<(), AllocError>
     requires { MayTake work.old (step.Groups []) }
     ensures fits { OnOk result ((t : Trace) → WorkFits t work.old → WorkFits t work.new) }
-    ensures at { OnOk result ((event : ℕ) → IsAfter trace.now event (λ (m : Made). spec.host_step (run_for event run) (flat_map (spec.queue_groups trace.now (run_for event run)) (queues_of trace.now))) (λ (m : Made). m) work.old work.new) }
+    ensures at { OnOk result ((event : ℕ) → IsAfter trace.now event
+        (λ (m : Made). spec.host_step (run_for event run)
+        (flat_map (spec.queue_groups trace.now (run_for event run)) (queues_of trace.now)))
+        (λ (m : Made). m) work.old work.new) }
 {
     let queues = queue_numbers(work.alloc, trace.queues.as_slice())?;
     let groups = device_groups(work.alloc, queues.as_slice(), place_in(run))?;
@@ -187,7 +203,8 @@ fn take_device_wait(work: &mut Work, trace: &Trace, run: Run) -> Result<(), Allo
 // A reset of a fence, which is no step.
 fn take_fence_reset(work: &mut Work, fence: u32)
     ensures fits { (t : Trace) → WorkFits t work.old → WorkFits t work.new }
-    ensures at { (t : Trace) (event : ℕ) → IsAfter t event (λ (m : Made). []) (λ (m : Made). fence_reset m fence) work.old work.new }
+    ensures at { (t : Trace) (event : ℕ) → IsAfter t event (λ (m : Made). [])
+        (λ (m : Made). fence_reset m fence) work.old work.new }
 {
     work.fences.reset(fence);
 }
@@ -196,7 +213,9 @@ fn take_fence_reset(work: &mut Work, fence: u32)
 pub fn take_call(work: &mut Work, trace: &Trace, run: Run, call: &Line) -> Result<(), AllocError>
     requires { MayTake work.old (step.Groups []) }
     ensures fits { OnOk result ((t : Trace) → WorkFits t work.old → WorkFits t work.new) }
-    ensures at { OnOk result ((event : ℕ) → NamesFence trace.now call.now → IsAfter trace.now event (λ (m : Made). spec.call_given trace.now (run_for event run) m (Some call.now)) (λ (m : Made). spec.call_made m (Some call.now)) work.old work.new) }
+    ensures at { OnOk result ((event : ℕ) → NamesFence trace.now call.now
+        → IsAfter trace.now event (λ (m : Made). spec.call_given trace.now (run_for event run) m
+        (Some call.now)) (λ (m : Made). spec.call_made m (Some call.now)) work.old work.new) }
 {
     match call {
         Line::WaitFence { fence, .. } => take_fence_wait(work, trace, run, *fence),

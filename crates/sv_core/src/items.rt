@@ -1,16 +1,17 @@
 //! Items that are taken: calls, batches and fence signals.
-ghost use Rattle.std.specs.Prelude.{ℕ, ◌≡◌, ◌∷◌, ◌++◌, [], List, Some, true, OnOk, length, option_map, slice_get, unwrap_or};
-ghost use Rattle.sv_model.specs.Binding.{Bound};
+ghost use Rattle.std.specs.Prelude.{ℕ, ◌≡◌, ◌∷◌, ◌++◌, [], List, Some, true, OnOk, length, option_map};
+ghost use Rattle.std.specs.Prelude.{slice_get, unwrap_or};
+ghost use Rattle.sv_model.specs.Places.{Bound};
 ghost use Rattle.sv_model.specs.Declarations.{call_of};
-ghost use Rattle.sv_model.specs.HostCalls.{call_given, call_made};
+ghost use Rattle.sv_model.specs.HostWaits.{call_given, call_made};
 ghost use Rattle.sv_model.specs.History.{batch_at, batches_in, call_at, no_batch};
-ghost use Rattle.sv_model.specs.Made.{Made};
+ghost use Rattle.sv_model.specs.Processed.{Made};
 ghost use Rattle.sv_model.specs.Work.{item_given, item_made, numbered};
 ghost use Rattle.sv_model.specs.Work as spec;
 ghost use Rattle.sv_model.specs.declared.line.Trace.{Trace};
 ghost use Rattle.sv_model.specs.declared.work.Step.TheVariants as step;
 ghost use Rattle.sv_model.specs.declared.line.Batch.{Batch};
-ghost use Rattle.sv_work.specs.Works.{IsAt, MayTake, WorkFits};
+ghost use Rattle.sv_processed.specs.Works.{IsAt, MayTake, WorkFits};
 ghost use Rattle.sv_batch.specs.Running.{AreOf, MayRun};
 ghost use Rattle.sv_core.specs.Runnable.{CallNamesFence, IsBatchAfter, IsRunnable};
 ghost use Rattle.sv_core.specs.Taking.{IsAfter};
@@ -18,11 +19,11 @@ ghost use Rattle.sv_core.specs.Taking.{IsAfter};
 use crate::calls::{take_call, take_fence};
 use std::alloc::{AllocError, Global};
 use sv_batch::{Recordings, take_batch};
-use sv_bound::Run;
+use sv_binding::Run;
 use sv_model::line::{Batch, Line, Mark, Trace};
 use sv_model::work::Item;
+use sv_processed::Work;
 use sv_range::List;
-use sv_work::Work;
 
 // The call of that number of a lane.
 fn call_of(trace: &Trace, lane: u32, index: u32) -> Option<&Line>
@@ -56,7 +57,8 @@ fn batch_in(call: &Line, batch: u32) -> Option<&Batch>
 
 // The batch of the submit that came as that event.
 fn batch_at<'a>(trace: &'a Trace, history: &[Mark], event: u64, batch: u32) -> Option<&'a Batch>
-    ensures { option_map (λ b. b.now) result ≡ slice_get (batches_in (call_at trace.now history.now event)) batch }
+    ensures { option_map (λ b. b.now) result ≡ slice_get
+        (batches_in (call_at trace.now history.now event)) batch }
 {
     match call_at(trace, history, event) {
         None => None,
@@ -87,7 +89,9 @@ fn take_call_of(
     requires { MayTake work.old (step.Groups []) }
     ensures fits { OnOk result ((t : Trace) → WorkFits t work.old → WorkFits t work.new) }
     ensures at { OnOk result (CallNamesFence trace.now (call_of trace.now lane index)
-        → IsAfter trace.now released (λ (m : Made). call_given trace.now (spec.run_of released 0 released 0) m (call_of trace.now lane index)) (λ (m : Made). call_made m (call_of trace.now lane index)) work.old work.new) }
+        → IsAfter trace.now released (λ (m : Made). call_given trace.now
+        (spec.run_of released 0 released 0) m (call_of trace.now lane index))
+        (λ (m : Made). call_made m (call_of trace.now lane index)) work.old work.new) }
 {
     match call_of(trace, lane, index) {
         None => Ok(()),
@@ -114,8 +118,11 @@ fn take_batch_of(
     run: Run,
 ) -> Result<(), AllocError>
     requires { MayRun work.old recordings.now }
-    ensures fits { OnOk result ((t : Trace) → AreOf t recordings.now → WorkFits t work.old → WorkFits t work.new) }
-    ensures at { OnOk result ((t : Trace) (event : ℕ) (b : Batch) → b ≡ batch_at trace.now history.now run.event run.batch → IsBatchAfter t event recordings.now run b work.old work.new) }
+    ensures fits { OnOk result ((t : Trace) → AreOf t recordings.now → WorkFits t work.old
+        → WorkFits t work.new) }
+    ensures at { OnOk result ((t : Trace) (event : ℕ) (b : Batch) → b
+        ≡ batch_at trace.now history.now run.event run.batch
+        → IsBatchAfter t event recordings.now run b work.old work.new) }
 {
     match batch_at(trace, history, run.event, run.batch) {
         None => take_batch(work, recordings, run, &empty_batch(work.alloc)),
@@ -133,9 +140,13 @@ pub fn take_item(
     item: Item,
 ) -> Result<(), AllocError>
     requires { MayRun work.old recordings.now }
-    ensures fits { OnOk result ((t : Trace) → AreOf t recordings.now → WorkFits t work.old → WorkFits t work.new) }
-    ensures at { OnOk result ((old more : List Bound) (m : Made) → IsRunnable trace.now history.now recordings.now m item → IsAt trace.now released old more m work.old
-        → IsAt trace.now released old (more ++ numbered (length (old ++ more)) (item_given trace.now history.now m released item)) (item_made trace.now history.now m released item) work.new) }
+    ensures fits { OnOk result ((t : Trace) → AreOf t recordings.now → WorkFits t work.old
+        → WorkFits t work.new) }
+    ensures at { OnOk result ((old more : List Bound) (m : Made)
+        → IsRunnable trace.now history.now recordings.now m item → IsAt trace.now released old more m work.old
+        → IsAt trace.now released old (more ++ numbered (length (old ++ more))
+        (item_given trace.now history.now m released item))
+        (item_made trace.now history.now m released item) work.new) }
 {
     match item {
         Item::Call { lane, index } => take_call_of(work, trace, released, lane, index),

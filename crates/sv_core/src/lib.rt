@@ -1,10 +1,13 @@
 //! The one-thread validator: events in, replies out.
+//!
+//! - knows events and replies, and no text and no thread
+//! - definitions: `Replies`, `Work`, `Holding` of `sv_model`; `State`, `Marks`, `Going`
+//! - used by `sv_device`
 #![tactic(auto)]
 
 mod calls;
 mod going;
 mod items;
-pub mod laws;
 mod parts;
 mod stop;
 mod validator;

@@ -1,6 +1,6 @@
 //! What the validator keeps of a history.
 ghost use Rattle.std.specs.Prelude.{ℕ, ◌≡◌, ◌∷◌, ◌++◌, ◌<◌, [], List, true, length, IfOk, OnOk};
-ghost use Rattle.sv_model.specs.Flow.{Holding, arrived};
+ghost use Rattle.sv_model.specs.Holding.{Holding, arrived};
 ghost use Rattle.sv_model.specs.Lawful.{IsLawful};
 ghost use Rattle.sv_model.specs.Replies.{IsReply};
 ghost use Rattle.sv_model.specs.declared.line.Mark.{Mark};
@@ -15,8 +15,8 @@ use sv_gate::Gate;
 use sv_model::line::{Mark, Trace};
 use sv_model::recorded::Event;
 use sv_model::work::Reply;
-use sv_reply::empty_reply;
-use sv_work::Work;
+use sv_processed::Work;
+use sv_replies::empty_reply;
 
 /// The items that are held, the published recordings, and the work of the items that were taken.
 #[derive(Drop)]
@@ -45,8 +45,12 @@ impl Parts {
 
     // The event comes in.
     fn arrive(&mut self, trace: &Trace, number: u64, event: Event) -> Result<(), AllocError>
-        ensures gate { OnOk result ((t : Trace) (h : Holding) → IsGateOf t h self.old.gate → number ≡ length h.events → IsGateOf t (arrived (record { done = []; holding = h }) (mark_of event)).holding self.new.gate) }
-        ensures recordings { OnOk result ((history : List Mark) → IsOwn trace.now event → ArePublished trace.now history self.old.recordings → ArePublished trace.now (history ++ mark_of event ∷ []) self.new.recordings) }
+        ensures gate { OnOk result ((t : Trace) (h : Holding) → IsGateOf t h self.old.gate → number
+            ≡ length h.events → IsGateOf t (arrived (record { done = []; holding = h })
+            (mark_of event)).holding self.new.gate) }
+        ensures recordings { OnOk result ((history : List Mark) → IsOwn trace.now event
+            → ArePublished trace.now history self.old.recordings
+            → ArePublished trace.now (history ++ mark_of event ∷ []) self.new.recordings) }
         ensures work { OnOk result (self.new.work ≡ self.old.work) }
     {
         match event {
@@ -98,8 +102,8 @@ impl Parts {
         }
     }
 
-    /// Takes in an event, which is the last of the history and has that number, and gives its reply. Where memory is
-    /// missing the parts are only to be dropped.
+    /// Takes in an event, which is the last of the history and has that number, and gives its reply. Where
+    /// memory is missing the parts are only to be dropped.
     pub fn take_in(
         &mut self,
         trace: &Trace,

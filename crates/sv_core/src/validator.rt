@@ -1,5 +1,6 @@
 //! The one-thread validator.
-ghost use Rattle.std.specs.Prelude.{◌≡◌, ◌∷◌, ◌++◌, [], ℕ, List, true, false, length, IfOk, IfErr, OnOk, OnErr};
+ghost use Rattle.std.specs.Prelude.{◌≡◌, ◌∷◌, ◌++◌, [], ℕ, List, true, false, length, IfOk, IfErr, OnOk};
+ghost use Rattle.std.specs.Prelude.{OnErr};
 ghost use Rattle.sv_model.specs.History.{IsHistory, IsWhole};
 ghost use Rattle.sv_model.specs.Replies.{AreReplies, IsReply};
 ghost use Rattle.sv_model.specs.declared.line.Mark.{Mark};
@@ -14,9 +15,9 @@ use sv_model::recorded::Event;
 use sv_model::work::{Held, Reply};
 use sv_range::{Duplicate, List};
 
-/// The validator of a trace: it takes in the events of a history one by one, and answers the reports and notes of the
-/// steps that each of them releases. Contracts see its trace, its history, its replies, and whether it is spent.
-/// Unless it is spent, its space stands for the work of the history.
+/// The validator of a trace: it takes in the events of a history one by one, and answers the reports and
+/// notes of the steps that each of them releases. Contracts see its trace, its history, its replies, whether
+/// it is spent, and its space, which, unless it is spent, stands for the work of the history.
 #[derive(Drop)]
 pub struct Validator {
     trace: Trace,
@@ -31,7 +32,13 @@ impl Model for Validator {
 
     ghost Value = { State };
 
-    ghost view = { λ v. record { trace = v.trace; history = v.history; replies = v.replies; spent = v.spent } };
+    ghost view = { λ v. record {
+      trace = v.trace;
+      history = v.history;
+      replies = v.replies;
+      spent = v.spent;
+      space = v.parts.work.checks.space;
+    } };
 
     ghost invariant = { λ v. Holds v.trace v.history v.replies v.spent v.parts };
 }
@@ -45,14 +52,14 @@ pub struct Counts {
 }
 
 impl Validator {
-    ghost use Rattle.sv_model.specs.Flow.{held_items};
+    ghost use Rattle.sv_model.specs.Holding.{held_items};
     ghost use Rattle.sv_model.specs.Lawful.{IsLawful};
     ghost use Rattle.sv_space.specs.Space.{pieces_in, kept_in, given_in};
-    ghost use Rattle.sv_space.specs.declared.space.Space.{Space};
     ghost use Rattle.sv_core.specs.Marks.{IsNextEvent, IsOwn, IsStop, mark_of};
-    ghost use Rattle.sv_core.specs.State.{IsSpaceIn};
+    ghost use Rattle.sv_core.specs.State.{HasItsSpace};
 
-    /// The validator before any event. The places of the history and of the replies are reserved for all events.
+    /// The validator before any event. The places of the history and of the replies are reserved for all
+    /// events.
     pub fn open(alloc: Global, trace: &Trace) -> Result<Validator, AllocError>
         requires { IsLawful trace.now }
         ensures trace { IfOk result (λ v. v.trace ≡ trace.now) }
@@ -69,8 +76,8 @@ impl Validator {
         })
     }
 
-    /// Takes in the next event of its actor, and gives its reply. A recording in it is of the validator's trace.
-    /// After a stop the history is as it was, and the validator is spent.
+    /// Takes in the next event of its actor, and gives its reply. A recording in it is of the validator's
+    /// trace. After a stop the history is as it was, and the validator is spent.
     pub fn apply(&mut self, event: Event) -> Result<Reply, Stop>
         requires next { IsNextEvent self.old.trace self.old.history event }
         requires own { IsOwn self.old.trace event }
@@ -79,7 +86,8 @@ impl Validator {
         ensures reply { IfOk result (IsReply self.new.trace self.new.history (length self.old.history)) }
         ensures kept { IfOk result (λ reply. self.new.replies ≡ self.old.replies ++ reply ∷ []) }
         ensures unspent { OnOk result ((self.old.spent ≡ false) × (self.new.spent ≡ false)) }
-        ensures stopped { OnErr result ((self.new.history ≡ self.old.history) × (self.new.replies ≡ self.old.replies) × (self.new.spent ≡ true)) }
+        ensures stopped { OnErr result ((self.new.history ≡ self.old.history)
+            × (self.new.replies ≡ self.old.replies) × (self.new.spent ≡ true)) }
         ensures cause { IfErr result (IsStop (length self.old.history) self.old.spent) }
     {
         if self.spent {
@@ -103,7 +111,8 @@ impl Validator {
         }
     }
 
-    /// The events so far. Of a spent validator they are not whole: the event that it stopped at was the next of its actor.
+    /// The events so far. Of a spent validator they are not whole: the event that it stopped at was the
+    /// next of its actor.
     pub fn history(&self) -> &List<Mark>
         ensures kept { result.now ≡ self.now.history }
         ensures history { IsHistory self.now.trace self.now.history }
@@ -122,21 +131,28 @@ impl Validator {
 
     /// What is held after the events so far.
     pub fn held(&self) -> Result<List<Held>, AllocError>
-        ensures { self.now.spent ≡ false → IfOk result (λ list. list ≡ held_items self.now.trace self.now.history) }
+        ensures { self.now.spent ≡ false → IfOk result
+            (λ list. list ≡ held_items self.now.trace self.now.history) }
     {
         self.parts.gate.held()
     }
 
     /// The number of accesses that are kept for the pieces of the space, or 2^64 - 1 where it is above that.
     pub fn kept_total(&self) -> u64
-        ensures { (space : Space) × IsSpaceIn self.now space × (result ≡ kept_in space) }
+        ensures stands { HasItsSpace self.now }
+        ensures number { result ≡ kept_in self.now.space }
     {
         self.parts.work.checks.space.kept_total()
     }
 
     /// The counts of the space.
     pub fn counts(&self) -> Counts
-        ensures { (space : Space) × IsSpaceIn self.now space × (result ≡ record { pieces = pieces_in space; installed = 0; caught_up = given_in space }) }
+        ensures stands { HasItsSpace self.now }
+        ensures numbers { result ≡ record {
+          pieces = pieces_in self.now.space;
+          installed = 0;
+          caught_up = given_in self.now.space;
+        } }
     {
         let space = &self.parts.work.checks.space;
         Counts {

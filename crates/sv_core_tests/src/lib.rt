@@ -1,5 +1,9 @@
 //! Tests of the one-thread validator over whole traces: each event of a text is taken in, in the order of
 //! the text and in other orders of its actors, and what is answered is compared with the text that is owed.
+//!
+//! - knows whole traces as texts
+//! - definitions: none: the tests are values
+//! - used by nothing: it only tests
 #![tactic(auto)]
 
 #[cfg(test)]
@@ -22,5 +26,7 @@ mod queues;
 mod reads;
 #[cfg(test)]
 mod rows;
+#[cfg(test)]
+mod spent;
 #[cfg(test)]
 mod unfinished;

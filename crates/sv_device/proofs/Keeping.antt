@@ -1,5 +1,6 @@
 -- What lies under the lock, after one more event.
-use Rattle.std.proofs.Common.{◌≡◌, ℕ, ◌+◌, ◌<◌, List, [], ◌∷◌, ◌++◌, Some, refl, sym, ◌∙◌, ap, subst, arith, length, set, length-set, slice_get, replicate}
+use Rattle.std.proofs.Common.{◌≡◌, ℕ, ◌+◌, ◌<◌, List, [], ◌∷◌, ◌++◌, Some, refl, sym, ◌∙◌, ap, subst, arith}
+use Rattle.std.proofs.Common.{length, set, length-set, slice_get, replicate}
 use Rattle.std.specs.Prelude.{slice_index, Bool, true, false}
 use Rattle.std.proofs.lemmas.Option.{slice_get_within}
 use Rattle.atomic_table.specs.Seated.{TableId}
@@ -21,25 +22,29 @@ use Rattle.sv_device.proofs.Seats.{few_actors}
 use Rattle.sv_device.proofs.Steps.{more_is_history}
 use Rattle.sv_device.proofs.Counting.{counts_more, counts_none}
 
-pub kept_first : (t : Trace) (named : TableId) (v : State) (b : BookIs) → IsLawful t → v.trace ≡ t → v.history ≡ [] → b ≡ book_is named (replicate 32 0) → IsKept t named v b
+pub kept_first : (t : Trace) (named : TableId) (v : State) (b : BookIs) → IsLawful t → v.trace ≡ t
+    → v.history ≡ [] → b ≡ book_is named (replicate 32 0) → IsKept t named v b
 kept_first t named v b lawful trace history book =
     let counts : b.counts ≡ replicate 32 0 = ap (λ (x : BookIs). x.counts) book in record {
       lawful = lawful;
       trace = trace;
       board = ap (λ (x : BookIs). x.board) book;
       wide = ap length counts;
-      counts = subst (λ l. Counts t l v.history) (sym counts) (subst (Counts t (replicate 32 0)) (sym history) (counts_none t));
+      counts = subst (λ l. Counts t l v.history) (sym counts)
+          (subst (Counts t (replicate 32 0)) (sym history) (counts_none t));
     }
 
 -- nothing changed but the replies
-pub kept_same : (t : Trace) (named : TableId) (v w : State) (b d : BookIs) → IsKept t named v b → w.trace ≡ v.trace → w.history ≡ v.history → d ≡ b → IsKept t named w d
+pub kept_same : (t : Trace) (named : TableId) (v w : State) (b d : BookIs) → IsKept t named v b → w.trace
+    ≡ v.trace → w.history ≡ v.history → d ≡ b → IsKept t named w d
 kept_same t named v w b d k trace history book =
     let counts : d.counts ≡ b.counts = ap (λ (x : BookIs). x.counts) book in record {
       lawful = k.lawful;
       trace = trace ∙ k.trace;
       board = ap (λ (x : BookIs). x.board) book ∙ k.board;
       wide = ap length counts ∙ k.wide;
-      counts = subst (λ l. Counts t l w.history) (sym counts) (subst (Counts t b.counts) (sym history) k.counts);
+      counts = subst (λ l. Counts t l w.history) (sym counts)
+          (subst (Counts t b.counts) (sym history) k.counts);
     }
 
 index_below : (t : Trace) (index place : ℕ) (m : Mark) → IsLawful t → IsEventAt t index place m → index < 32
@@ -48,29 +53,41 @@ index_below t index place m lawful e =
     let le = few_actors t lawful in
     omega (arith, lt, le)
 
-longer : (t : Trace) (h : List Mark) (counts : List ℕ) (index place : ℕ) (m : Mark) → IsLawful t → IsHistory t h → Counts t counts h → IsEventAt t index place m → slice_index counts index ≡ place → IsHistory t (h ++ m ∷ [])
+longer : (t : Trace) (h : List Mark) (counts : List ℕ) (index place : ℕ) (m : Mark) → IsLawful t
+    → IsHistory t h → Counts t counts h → IsEventAt t index place m → slice_index counts index ≡ place
+    → IsHistory t (h ++ m ∷ [])
 longer t h counts index place m lawful is counted e shown =
     let count : length (events_of t e.who h) ≡ place = sym (counted index e.who e.actor) ∙ shown in
-    subst (λ (x : Mark). IsHistory t (h ++ x ∷ [])) (sym e.event) (more_is_history t h e.who place lawful is count e.left)
+    subst (λ (x : Mark). IsHistory t (h ++ x ∷ [])) (sym e.event)
+    (more_is_history t h e.who place lawful is count e.left)
 
 -- the event is the next of its actor
-pub event_next : (t : Trace) (named : TableId) (v : State) (b : BookIs) (index place : ℕ) (event : Event) → IsKept t named v b → IsHistory v.trace v.history → IsEventAt t index place (mark_of event) → slice_index b.counts index ≡ place → IsNextEvent v.trace v.history event
+pub event_next : (t : Trace) (named : TableId) (v : State) (b : BookIs) (index place : ℕ) (event : Event)
+    → IsKept t named v b → IsHistory v.trace v.history → IsEventAt t index place (mark_of event)
+    → slice_index b.counts index ≡ place → IsNextEvent v.trace v.history event
 event_next t named v b index place event k is e shown =
     subst (λ (u : Trace). IsHistory u (v.history ++ mark_of event ∷ [])) (sym k.trace)
-    (longer t v.history b.counts index place (mark_of event) k.lawful (subst (λ (u : Trace). IsHistory u v.history) k.trace is) k.counts e shown)
+    (longer t v.history b.counts index place (mark_of event) k.lawful
+    (subst (λ (u : Trace). IsHistory u v.history) k.trace is) k.counts e shown)
 
 -- one event more, which the book counted
-pub kept_more : (t : Trace) (named : TableId) (v w : State) (b d : BookIs) (index place : ℕ) (m : Mark) → IsKept t named v b → IsEventAt t index place m → slice_index b.counts index ≡ place → w.trace ≡ v.trace → w.history ≡ v.history ++ m ∷ [] → d ≡ book_is b.board (set b.counts index (place + 1)) → IsKept t named w d
+pub kept_more : (t : Trace) (named : TableId) (v w : State) (b d : BookIs) (index place : ℕ) (m : Mark)
+    → IsKept t named v b → IsEventAt t index place m → slice_index b.counts index ≡ place → w.trace
+    ≡ v.trace → w.history ≡ v.history ++ m ∷ [] → d ≡ book_is b.board (set b.counts index (place + 1))
+    → IsKept t named w d
 kept_more t named v w b d index place m k e shown trace history book =
     let counts : d.counts ≡ set b.counts index (place + 1) = ap (λ (x : BookIs). x.counts) book in
     let below = index_below t index place m k.lawful e in
     let wide = k.wide in
-    let more = counts_more t b.counts v.history index e.who place k.lawful k.counts e.actor e.left (omega (arith, below, wide)) shown in record {
+    let more = counts_more t b.counts v.history index e.who place k.lawful k.counts e.actor e.left
+    (omega (arith, below, wide)) shown in record {
       lawful = k.lawful;
       trace = trace ∙ k.trace;
       board = ap (λ (x : BookIs). x.board) book ∙ k.board;
       wide = ap length counts ∙ length-set b.counts index (place + 1) ∙ k.wide;
-      counts = subst (λ l. Counts t l w.history) (sym counts) (subst (Counts t (set b.counts index (place + 1))) (sym (history ∙ ap (λ (x : Mark). v.history ++ x ∷ []) e.event)) more);
+      counts = subst (λ l. Counts t l w.history) (sym counts)
+          (subst (Counts t (set b.counts index (place + 1)))
+          (sym (history ∙ ap (λ (x : Mark). v.history ++ x ∷ []) e.event)) more);
     }
 
 get_last : (marks : List Mark) (m : Mark) → slice_get (marks ++ m ∷ []) (length marks) ≡ Some m
@@ -78,22 +95,31 @@ get_last [] m = refl
 get_last (x ∷ xs) m = get_last xs m
 
 -- what the event was answered
-pub received : (t : Trace) (named : TableId) (v w : State) (b : BookIs) (index place : ℕ) (m : Mark) (r : Receipt) → IsKept t named v b → IsHistory v.trace v.history → IsEventAt t index place m → slice_index b.counts index ≡ place → w.trace ≡ v.trace → w.history ≡ v.history ++ m ∷ [] → r.number ≡ length v.history → IsReply w.trace w.history (length v.history) r.reply → IsReceipt t m r
+pub received : (t : Trace) (named : TableId) (v w : State) (b : BookIs) (index place : ℕ) (m : Mark)
+    (r : Receipt) → IsKept t named v b → IsHistory v.trace v.history → IsEventAt t index place m
+    → slice_index b.counts index ≡ place → w.trace ≡ v.trace → w.history ≡ v.history ++ m ∷ [] → r.number
+    ≡ length v.history → IsReply w.trace w.history (length v.history) r.reply → IsReceipt t m r
 received t named v w b index place m r k is e shown trace history number reply = record {
   history = w.history;
-  is_history = subst (IsHistory t) (sym history) (longer t v.history b.counts index place m k.lawful (subst (λ (u : Trace). IsHistory u v.history) k.trace is) k.counts e shown);
-  stands = ap (λ l. slice_get l r.number) history ∙ ap (λ n. slice_get (v.history ++ m ∷ []) n) number ∙ get_last v.history m;
-  reply = subst (λ (u : Trace). IsReply u w.history r.number r.reply) (trace ∙ k.trace) (subst (λ n. IsReply w.trace w.history n r.reply) (sym number) reply);
+  is_history = subst (IsHistory t) (sym history) (longer t v.history b.counts index place m k.lawful
+      (subst (λ (u : Trace). IsHistory u v.history) k.trace is) k.counts e shown);
+  stands = ap (λ l. slice_get l r.number) history ∙ ap (λ n. slice_get (v.history ++ m ∷ []) n) number
+      ∙ get_last v.history m;
+  reply = subst (λ (u : Trace). IsReply u w.history r.number r.reply) (trace ∙ k.trace)
+      (subst (λ n. IsReply w.trace w.history n r.reply) (sym number) reply);
 }
 
 -- where it stopped
-pub stopped_in : (t : Trace) (named : TableId) (v : State) (b : BookIs) (s : Stop) → IsKept t named v b → IsHistory v.trace v.history → (IsWhole v.trace v.history → v.spent ≡ false) → IsStop (length v.history) v.spent s → IsStopIn t s
+pub stopped_in : (t : Trace) (named : TableId) (v : State) (b : BookIs) (s : Stop) → IsKept t named v b
+    → IsHistory v.trace v.history → (IsWhole v.trace v.history → v.spent ≡ false)
+    → IsStop (length v.history) v.spent s → IsStopIn t s
 stopped_in t named v b stop.Memory k is unspent cause = tt
 stopped_in t named v b (stop.Spent s) k is unspent cause = (
   v.history,
   subst (λ (u : Trace). IsHistory u v.history) k.trace is,
   number v.spent cause,
-  λ whole. lacks (subst (λ spent. IsStop (length v.history) spent (stop.Spent s)) (unspent (subst (λ (u : Trace). IsWhole u v.history) (sym k.trace) whole)) cause),
+  λ whole. lacks (subst (λ spent. IsStop (length v.history) spent (stop.Spent s))
+      (unspent (subst (λ (u : Trace). IsWhole u v.history) (sym k.trace) whole)) cause),
 )
   where
     number : (spent : Bool) → IsStop (length v.history) spent (stop.Spent s) → s.number ≡ length v.history

@@ -8,9 +8,11 @@ use Rattle.sv_device.specs.declared.who.Who.{Who}
 use Rattle.sv_device.specs.declared.who.Who.TheVariants.{Lane, Recorder}
 use Rattle.sv_device.specs.Actors.{script_of}
 
-one_of_all : {X : Type 0} (scripts : List (List X)) (k : ℕ) → length (slice_index_or scripts k []) ≤ sum_by (λ (s : List X). length s) scripts
+one_of_all : {X : Type 0} (scripts : List (List X)) (k : ℕ) → length (slice_index_or scripts k [])
+    ≤ sum_by (λ (s : List X). length s) scripts
 one_of_all [] k = omega arith
-one_of_all {X} (s ∷ scripts) zero = let e = sum_by-cons (λ (s : List X). length s) s scripts in omega (arith, e)
+one_of_all {X} (s ∷ scripts) zero = let e = sum_by-cons (λ (s : List X). length s) s scripts in
+    omega (arith, e)
 one_of_all {X} (s ∷ scripts) (suc k) =
     let e = sum_by-cons (λ (s : List X). length s) s scripts in
     let le = one_of_all scripts k in

@@ -16,9 +16,11 @@ use Rattle.sv_device.specs.declared.who.Who.{Who}
 
 -- the count of each actor is the number of its events in the history
 abbrev pub Counts : Trace → List ℕ → List Mark → Type 0
-Counts t counts history = (index : ℕ) (who : Who) → slice_get (actors_of t) index ≡ Some who → slice_index counts index ≡ length (events_of t who history)
+Counts t counts history = (index : ℕ) (who : Who) → slice_get (actors_of t) index ≡ Some who
+    → slice_index counts index ≡ length (events_of t who history)
 
--- What lies under the lock: the validator of the trace, and a book of the board with the counts of the history.
+-- What lies under the lock: the validator of the trace, and a book of the board with the counts of the
+-- history.
 pub record IsKept (t : Trace) (named : TableId) (validator : State) (book : BookIs) : Type 0 where
   pub lawful : IsLawful t
   pub trace : validator.trace ≡ t
@@ -27,7 +29,8 @@ pub record IsKept (t : Trace) (named : TableId) (validator : State) (book : Book
   pub counts : Counts t book.counts validator.history
 
 -- An actor of the trace, with its share of the board, whose count is its place.
-pub record IsActor (t : Trace) (named : TableId) (who : Who) (index place count : ℕ) (held : Option ShareIs) : Type 0 where
+pub record IsActor (t : Trace) (named : TableId) (who : Who) (index place count : ℕ)
+    (held : Option ShareIs) : Type 0 where
   pub lawful : IsLawful t
   pub actor : slice_get (actors_of t) index ≡ Some who
   pub long : count ≡ length (script_of t who)
@@ -41,7 +44,9 @@ pub record IsReceipt (t : Trace) (m : Mark) (r : Receipt) : Type 0 where
   pub stands : slice_get history r.number ≡ Some m
   pub reply : IsReply t history r.number r.reply
 
--- what a validator of the trace stopped for: the number is that of the event which lacked memory, behind a history without it
+-- what a validator of the trace stopped for: the number is that of the event which lacked memory, behind a
+-- history without it
 abbrev pub IsStopIn : Trace → Stop → Type 0
 IsStopIn t stop.Memory = Unit {0}
-IsStopIn t (stop.Spent s) = (history : List Mark) × IsHistory t history × (s.number ≡ length history) × (IsWhole t history → ⊥)
+IsStopIn t (stop.Spent s) = (history : List Mark) × IsHistory t history × (s.number ≡ length history)
+    × (IsWhole t history → ⊥)

@@ -1,5 +1,6 @@
 //! The device: the lock, with the board, the trace and its index beside it.
-ghost use Rattle.std.specs.Prelude.{◌≡◌, ℕ, ◌+◌, ◌<◌, IfOk, IfErr, OnErr, Some, length, slice_get, slice_index_or, replicate};
+ghost use Rattle.std.specs.Prelude.{◌≡◌, ℕ, ◌+◌, ◌<◌, IfOk, IfErr, OnErr, Some, length, slice_get};
+ghost use Rattle.std.specs.Prelude.{slice_index_or, replicate};
 ghost use Rattle.sv_model.specs.Lawful.{IsLawful};
 ghost use Rattle.sv_record.specs.Indexed.{IsIndexOf};
 ghost use Rattle.sv_share.specs.Values.{share_is, book_is};
@@ -47,9 +48,11 @@ impl<C: Case> Device<C> {
         requires trace { trace.now ≡ C.trace }
         requires board { (board ≡ C.board) × (book ≡ book_is C.board (replicate 32 0)) }
         requires count { length shares ≡ length (actors_of trace.now) }
-        requires shares { (i : ℕ) (d : _) → i < length shares → slice_index_or shares i d ≡ share_is C.board i 0 }
+        requires shares { (i : ℕ) (d : _) → i < length shares → slice_index_or shares i d
+            ≡ share_is C.board i 0 }
         ensures count { IfOk result (λ opened. length opened.1 ≡ length (actors_of trace.now)) }
-        ensures actors { IfOk result (λ opened. (i : ℕ) (who : Who) (d : _) → slice_get (actors_of trace.now) i ≡ Some who → slice_index_or opened.1 i d ≡ actor_is who i 0) }
+        ensures actors { IfOk result (λ opened. (i : ℕ) (who : Who) (d : _)
+            → slice_get (actors_of trace.now) i ≡ Some who → slice_index_or opened.1 i d ≡ actor_is who i 0) }
     {
         let all = actors(alloc, trace)?;
         let actors = seated(alloc, trace, all.as_slice(), shares)?;
@@ -69,8 +72,10 @@ impl<C: Case> Device<C> {
     /// The actor's next event. Where the validator stops, or memory is missing, the actor stands.
     pub fn step<R: Wait>(&self, rt: &R, actor: &mut Actor<C>) -> Result<Receipt, Stop>
         requires { actor.old.place < length (script_of C.trace actor.old.who) }
-        ensures ok { IfOk result (λ receipt. IsReceipt C.trace (mark_at C.trace actor.old.who actor.old.place) receipt) }
-        ensures moved { IfOk result (λ receipt. actor.new ≡ actor_is actor.old.who actor.old.index (actor.old.place + 1)) }
+        ensures ok { IfOk result (λ receipt. IsReceipt C.trace
+            (mark_at C.trace actor.old.who actor.old.place) receipt) }
+        ensures moved { IfOk result (λ receipt. actor.new
+            ≡ actor_is actor.old.who actor.old.index (actor.old.place + 1)) }
         ensures stands { OnErr result (actor.new ≡ actor.old) }
         ensures cause { IfErr result (IsStopIn C.trace) }
     {
@@ -110,7 +115,8 @@ fn seated<C: Case>(
     requires count { length shares ≡ length all.now }
     requires shares { (i : ℕ) (d : _) → i < length shares → slice_index_or shares i d ≡ share_is C.board i 0 }
     ensures count { IfOk result (λ actors. length actors ≡ length all.now) }
-    ensures actors { IfOk result (λ actors. (i : ℕ) (who : Who) (d : _) → slice_get all.now i ≡ Some who → slice_index_or actors i d ≡ actor_is who i 0) }
+    ensures actors { IfOk result (λ actors. (i : ℕ) (who : Who) (d : _) → slice_get all.now i ≡ Some who
+        → slice_index_or actors i d ≡ actor_is who i 0) }
 {
     let mut shares = shares.into_vec();
     let mut actors = Vec::new(alloc);

@@ -18,7 +18,8 @@ pub fn finish<C: Case>(
 ) -> Result<Validator, AllocError>
     requires board { board.now ≡ C.board }
     requires count { length actors.items ≡ length (actors_of C.trace) }
-    requires actors { (i : ℕ) (d : _) → i < length actors.items → (slice_index_or actors.items i d).index ≡ i }
+    requires actors { (i : ℕ) (d : _) → i < length actors.items → (slice_index_or actors.items i d).index
+        ≡ i }
     ensures trace { IfOk result (λ v. v.trace ≡ C.trace) }
     ensures whole { IfOk result (λ v. IsWhole C.trace v.history) }
     ensures unspent { IfOk result (λ v. v.spent ≡ false) }
@@ -34,6 +35,7 @@ pub fn finish<C: Case>(
         kept.compare(board, actor.into_share());
     }
     let validator = kept.into_validator();
+    // What these two say of the history and of the replies is what is handed on.
     validator.history();
     validator.replies();
     Ok(validator)

@@ -1,5 +1,6 @@
 //! What lies under the lock.
-ghost use Rattle.std.specs.Prelude.{◌≡◌, ◌+◌, ◌<◌, ◌++◌, ◌∷◌, ℕ, [], Some, IfOk, IfErr, OnErr, OnOk, length, slice_get, replicate};
+ghost use Rattle.std.specs.Prelude.{◌≡◌, ◌+◌, ◌<◌, ◌++◌, ◌∷◌, ℕ, [], Some, IfOk, IfErr, OnErr, OnOk};
+ghost use Rattle.std.specs.Prelude.{length, slice_get, replicate};
 ghost use Rattle.sv_model.specs.History.{IsWhole};
 ghost use Rattle.sv_model.specs.Lawful.{IsLawful};
 ghost use Rattle.sv_model.specs.Replies.{AreReplies};
@@ -82,7 +83,8 @@ impl<C: Case> Kept<C> {
     pub fn compare(&mut self, board: &Board, share: Share) -> Share
         requires board { (board.now ≡ C.board) × (share.board ≡ C.board) }
         ensures same { (self.new ≡ self.old) × (result ≡ share) }
-        ensures equal { (who : Who) → slice_get (actors_of C.trace) share.actor ≡ Some who → length (events_of C.trace who self.old.history) ≡ share.count }
+        ensures equal { (who : Who) → slice_get (actors_of C.trace) share.actor ≡ Some who
+            → length (events_of C.trace who self.old.history) ≡ share.count }
     {
         board.agree(&mut self.book, share)
     }

@@ -1,4 +1,8 @@
 //! The device lock, and the actors that take it in turn.
+//!
+//! - knows actors, their events and the lock, and no text
+//! - definitions: `Devices`, `Actors`, `Indexed`
+//! - used by `sv_app`
 #![tactic(auto)]
 
 mod actor;

@@ -12,8 +12,8 @@ use sv_model::recorded::Event;
 use sv_record::index::Index;
 use sv_record::record;
 
-/// The event at that place of the actor's script; the index is that of the trace. A recorder fills a context of its
-/// own for it. Fails only for want of memory.
+/// The event at that place of the actor's script; the index is that of the trace. A recorder fills a
+/// context of its own for it. Fails only for want of memory.
 pub fn event_at(trace: &Trace, index: &Index, who: Who, place: u32) -> Result<Event, AllocError>
     requires lawful { IsLawful trace.now }
     requires indexed { IsIndexOf trace.now index.now }

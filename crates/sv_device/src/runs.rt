@@ -72,7 +72,8 @@ fn run_all<C: Case + Send + Sync, P: Pace + Sync, R: Threads + Wait + Sync>(
     pace: &P,
     actors: &mut [Actor<C>],
 )
-    ensures { (i : ℕ) (d : _) → i < length actors.old → (slice_index_or actors.new i d).index ≡ (slice_index_or actors.old i d).index }
+    ensures { (i : ℕ) (d : _) → i < length actors.old → (slice_index_or actors.new i d).index
+        ≡ (slice_index_or actors.old i d).index }
 {
     thread::for_each_mut(rt, actors, 32, &|_, actor| run(rt, device, pace, actor));
 }

@@ -8,9 +8,9 @@ use crate::stages::names_all_of;
 use crate::union::{holds, union_of_rows, with_flag};
 use sv_mask::{AccessWord, StageWord, Usages};
 
-/// The access scope of a mask (Vulkan 1.3, "Execution and Memory Dependencies"): the usages whose stage and whose
-/// access are named. The logical order of the stages, the top and the bottom of the pipe add nothing to it.
-/// Bits above the plain stages and accesses name nothing.
+/// The access scope of a mask (Vulkan 1.3, "Execution and Memory Dependencies"): the usages whose stage and
+/// whose access are named. The logical order of the stages, the top and the bottom of the pipe add nothing
+/// to it. Bits above the plain stages and accesses name nothing.
 pub fn access(stages: StageWord, accesses: AccessWord) -> Usages
     ensures exact { result ≡ spec.access stages accesses }
     ensures in_first_scope { IsAtStages result (spec.first_sync stages) }

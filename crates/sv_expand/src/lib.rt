@@ -1,4 +1,8 @@
 //! Synchronization scopes and access scopes of masks.
+//!
+//! - knows masks alone
+//! - definitions: `Scopes` of `sv_mask`; `Rows`
+//! - used by `sv_command`, `sv_pass`, `sv_binding`
 #![tactic(auto)]
 
 mod accesses;

@@ -18,9 +18,9 @@ pub fn first_sync(word: StageWord) -> Stages
     Stages(all as u32)
 }
 
-/// The second synchronization scope of a destination mask (Vulkan 1.3, "Execution and Memory Dependencies"): the
-/// named stages with all logically later ones, and all stages but the host where the top of the pipe is named.
-/// Bits of the word above the 17 plain stages name nothing.
+/// The second synchronization scope of a destination mask (Vulkan 1.3, "Execution and Memory
+/// Dependencies"): the named stages with all logically later ones, and all stages but the host where the
+/// top of the pipe is named. Bits of the word above the 17 plain stages name nothing.
 pub fn second_sync(word: StageWord) -> Stages
     ensures { result ≡ spec.second_sync word }
 {

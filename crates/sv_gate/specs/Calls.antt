@@ -1,5 +1,6 @@
 -- A call as the gate keeps it.
-use Rattle.std.specs.Prelude.{◌≡◌, ℕ, List, [], ◌++◌, Bool, true, false, Option, Some, None, slice_get, slice_index_or}
+use Rattle.std.specs.Prelude.{◌≡◌, ℕ, List, [], ◌++◌, Bool, true, false, Option, Some, None, slice_get}
+use Rattle.std.specs.Prelude.{slice_index_or}
 use Rattle.std.specs.List.{list_all}
 use Rattle.sv_model.specs.declared.line.Trace.{Trace}
 use Rattle.sv_model.specs.declared.line.Mark.{Mark}
@@ -9,10 +10,11 @@ use Rattle.sv_model.specs.declared.line.Line.TheVariants as line
 use Rattle.sv_model.specs.declared.line.Batch.{Batch}
 use Rattle.sv_model.specs.declared.work.Item.{Item}
 use Rattle.sv_model.specs.Declarations.{is_fence}
-use Rattle.sv_model.specs.Enabled.{Past, are_published, is_empty}
-use Rattle.sv_model.specs.Flow.{batches_from, fence_items}
+use Rattle.sv_model.specs.Processed.{Past}
+use Rattle.sv_model.specs.Holding.{are_published, is_empty, batches_from, fence_items}
 use Rattle.sv_gate.specs.declared.calls.Call.{Call}
-use Rattle.sv_gate.specs.declared.calls.Call.TheVariants.{Submit, WaitFence, ResetFence, WaitQueue, WaitDevice, Other}
+use Rattle.sv_gate.specs.declared.calls.Call.TheVariants.{Submit, WaitFence, ResetFence, WaitQueue}
+use Rattle.sv_gate.specs.declared.calls.Call.TheVariants.{WaitDevice, Other}
 
 abbrev pub call_in : Line → Call
 call_in (line.Submit lane queue batches fence) = Submit queue batches fence
@@ -34,7 +36,8 @@ kept_of_mark scripts other = None
 -- What a call sends, and where.
 
 abbrev pub sent_by : ℕ → Call → List Item
-sent_by event (Submit queue batches fence) = batches_from queue event 0 batches ++ fence_items queue event fence
+sent_by event (Submit queue batches fence) = batches_from queue event 0 batches
+    ++ fence_items queue event fence
 sent_by event call = []
 
 abbrev pub sent_for : ℕ → Option Call → List Item

@@ -1,5 +1,6 @@
 -- What a gate stands for: the events so far, and what is held after them ("Queue Submission").
-use Rattle.std.specs.Prelude.{ℕ, ◌≡◌, ◌<◌, ◌≤◌, ◌^◌, ◌∷◌, ◌++◌, List, [], Option, Some, None, All, drop, map, length, slice_index_or, slice_set}
+use Rattle.std.specs.Prelude.{ℕ, ◌≡◌, ◌<◌, ◌≤◌, ◌^◌, ◌∷◌, ◌++◌, List, [], Option, Some, None, All, drop}
+use Rattle.std.specs.Prelude.{map, length, slice_index_or, slice_set}
 use Rattle.std.specs.BTreeSet.{contains}
 use Rattle.std.specs.Ordering.{nat_cmp}
 use Rattle.sv_model.specs.declared.line.Trace.{Trace}
@@ -7,8 +8,7 @@ use Rattle.sv_model.specs.declared.line.Line.{Line}
 use Rattle.sv_model.specs.declared.line.Line.TheVariants as line
 use Rattle.sv_model.specs.declared.work.Item.{Item}
 use Rattle.sv_model.specs.Declarations.{call_of}
-use Rattle.sv_model.specs.Enabled.{is_published}
-use Rattle.sv_model.specs.Flow.{Came, Holding, sent, held_count}
+use Rattle.sv_model.specs.Holding.{is_published, Came, Holding, sent, held_count}
 use Rattle.sv_gate.specs.declared.calls.Call.{Call}
 use Rattle.sv_gate.specs.declared.waiting.Waiting.{Waiting}
 use Rattle.sv_gate.specs.declared.gate.Gate.{Gate}
@@ -23,7 +23,8 @@ added lists n more = slice_set lists n (slice_index_or lists n [] ++ more)
 -- The first of the list of that number was taken out; None where it has none, and nothing changes.
 abbrev pub Pops : {X : Type 0} → List (List X) → List (List X) → ℕ → Option X → Type 0
 Pops old new n None = (slice_index_or old n [] ≡ []) × (new ≡ old)
-Pops old new n (Some x) = (slice_index_or old n [] ≡ x ∷ drop 1 (slice_index_or old n [])) × (new ≡ slice_set old n (drop 1 (slice_index_or old n [])))
+Pops old new n (Some x) = (slice_index_or old n [] ≡ x ∷ drop 1 (slice_index_or old n []))
+    × (new ≡ slice_set old n (drop 1 (slice_index_or old n [])))
 
 -- the queues after the items went to that one
 abbrev pub sent_to : List (List Item) → Option ℕ → List Item → List (List Item)

@@ -1,14 +1,16 @@
 -- What an item asks for, from what the processed items left.
-use Rattle.std.specs.Prelude.{◌≡◌, ℕ, ◌-◌, ◌==◌, List, Bool, true, false, All, filter, count_by, length, nat_le}
+use Rattle.std.specs.Prelude.{◌≡◌, ℕ, ◌-◌, ◌==◌, List, Bool, true, false, All, filter, count_by, length}
+use Rattle.std.specs.Prelude.{nat_le}
 use Rattle.sv_model.specs.declared.line.Trace.{Trace}
 use Rattle.sv_model.specs.declared.line.Mark.{Mark}
 use Rattle.sv_model.specs.declared.line.Batch.{Batch}
 use Rattle.sv_model.specs.declared.line.SemaphoreUse.{SemaphoreUse}
 use Rattle.sv_model.specs.declared.work.Taken.{Taken}
 use Rattle.sv_model.specs.History.{batch_at}
-use Rattle.sv_model.specs.Made.{Made, Signal, current_value, fence_state, has_signal}
-use Rattle.sv_model.specs.Enabled.{Past, past, batch_ready}
-use Rattle.sv_model.specs.Flow.{items_of}
+use Rattle.sv_model.specs.Processed.{Made, Signal, Past}
+use Rattle.sv_model.specs.Semaphores.{current_value, batch_ready}
+use Rattle.sv_model.specs.Fences.{fence_state, has_signal}
+use Rattle.sv_model.specs.Holding.{past, items_of}
 use Rattle.sv_model.specs.Laws.{left_by_items}
 use Rattle.sv_model.specs.Lawful.{IsLawful}
 use Rattle.sv_sema.specs.Stands.{IsUseOf}
@@ -17,7 +19,8 @@ use Rattle.sv_sema.specs.declared.semaphores.Pairing.TheVariants.{Initial, Token
 
 -- the signals of a semaphore that are kept, less its waits
 abbrev pub standing_of : Made → ℕ → ℕ
-standing_of m sem = length (filter (λ (x : Signal). x.sem == sem) m.signals) - count_by (λ (w : ℕ). w == sem) m.waits
+standing_of m sem = length (filter (λ (x : Signal). x.sem == sem) m.signals)
+    - count_by (λ (w : ℕ). w == sem) m.waits
 
 abbrev pub past_of : Trace → Made → Past
 past_of t m = record {
@@ -41,13 +44,16 @@ pub record IsBatchOf (t : Trace) (b : Batch) : Type 0 where
 
 -- in a lawful trace that holds of each batch
 abbrev pub LawfulBatchesFit : Type 0
-LawfulBatchesFit = (t : Trace) (history : List Mark) (event batch : ℕ) → IsLawful t → IsBatchOf t (batch_at t history event batch)
+LawfulBatchesFit = (t : Trace) (history : List Mark) (event batch : ℕ) → IsLawful t
+    → IsBatchOf t (batch_at t history event batch)
 
 -- What the items left answers fences and batches as the past does.
 pub record Agrees (t : Trace) (events : List Mark) (m : Made) (p : Past) : Type 0 where
   pub signaled : (fence : ℕ) → p.signaled fence ≡ has_signal (fence_state t m fence)
-  pub ready : (event batch : ℕ) → batch_ready p (batch_at t events event batch) ≡ batch_ready (past_of t m) (batch_at t events event batch)
+  pub ready : (event batch : ℕ) → batch_ready p (batch_at t events event batch)
+      ≡ batch_ready (past_of t m) (batch_at t events event batch)
 
 -- in a lawful trace what the items left does so
 abbrev pub LawfulPastsAgree : Type 0
-LawfulPastsAgree = (t : Trace) (events : List Mark) (items : List Taken) → IsLawful t → Agrees t events (left_by_items t events items) (past t events (items_of items))
+LawfulPastsAgree = (t : Trace) (events : List Mark) (items : List Taken) → IsLawful t
+    → Agrees t events (left_by_items t events items) (past t events (items_of items))

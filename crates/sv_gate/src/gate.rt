@@ -1,4 +1,5 @@
-ghost use Rattle.std.specs.Prelude.{◌≡◌, ◌++◌, ◌∷◌, ℕ, List, [], length, map, option_map, IfOk, IfSome, OnOk, OnErr, Some, slice_get, slice_index_or, position, ◌+◌, ◌<◌, ◌^◌};
+ghost use Rattle.std.specs.Prelude.{◌≡◌, ◌++◌, ◌∷◌, ℕ, List, [], length, map, option_map, IfOk, IfSome};
+ghost use Rattle.std.specs.Prelude.{OnOk, OnErr, Some, slice_get, slice_index_or, position, ◌+◌, ◌<◌, ◌^◌};
 ghost use Rattle.std.specs.BTreeSet.{contains};
 ghost use Rattle.std.specs.List.{list_all};
 ghost use Rattle.std.specs.Ordering.{nat_cmp};
@@ -8,11 +9,13 @@ ghost use Rattle.sv_model.specs.declared.line.Mark.{Mark};
 ghost use Rattle.sv_model.specs.declared.line.Mark.TheVariants as mark;
 ghost use Rattle.sv_model.specs.declared.work.Held.TheVariants as held;
 ghost use Rattle.sv_model.specs.declared.work.Taken.{Taken};
-ghost use Rattle.sv_model.specs.Enabled.{Past, past, call_ready, item_ready};
-ghost use Rattle.sv_model.specs.Flow.{Holding, start, starts, arrived, first_calls, from_lane, from_queue, next, flow, held_items, items_of};
+ghost use Rattle.sv_model.specs.Processed.{Past, Made};
+ghost use Rattle.sv_model.specs.Holding.{past, call_ready, item_ready, Holding, start, starts, arrived};
+ghost use Rattle.sv_model.specs.Holding.{first_calls, from_lane, from_queue, next, flow, held_items};
+ghost use Rattle.sv_model.specs.Holding.{items_of};
 ghost use Rattle.sv_model.specs.Laws.{left_by_items};
 ghost use Rattle.sv_model.specs.Lawful.{IsLawful};
-ghost use Rattle.sv_model.specs.Made.{Made, has_signal};
+ghost use Rattle.sv_model.specs.Fences.{has_signal};
 ghost use Rattle.sv_sema.specs.Stands.{StandFor as SemaphoresStandFor};
 ghost use Rattle.sv_fence.specs.Stands.{StandFor as FencesStandFor};
 ghost use Rattle.sv_gate.specs.declared.waiting.Waiting.{Waiting};
@@ -80,8 +83,10 @@ impl Gate {
 
     /// One event comes in, with its number. Where memory is missing, nothing changes.
     pub fn arrive(&mut self, mark: Mark, event: u64) -> Result<(), AllocError>
-        ensures arrived { (t : Trace) (h : Holding) → IsGateOf t h self.old → event ≡ length h.events → OnOk result (IsGateOf t (arrived (record { done = []; holding = h }) mark).holding self.new) }
-        ensures fault { (t : Trace) (h : Holding) → IsGateOf t h self.old → OnErr result (IsGateOf t h self.new) }
+        ensures arrived { (t : Trace) (h : Holding) → IsGateOf t h self.old → event ≡ length h.events
+            → OnOk result (IsGateOf t (arrived (record { done = []; holding = h }) mark).holding self.new) }
+        ensures fault { (t : Trace) (h : Holding) → IsGateOf t h self.old
+            → OnErr result (IsGateOf t h self.new) }
     {
         match mark {
             Mark::Publish(rec) => self.publish(rec),
@@ -94,8 +99,12 @@ impl Gate {
     /// lawful, and the semaphores and fences stand for all items that were taken before. Takes no
     /// memory.
     pub fn next(&mut self, sema: &Semaphores, fences: &Fences) -> Option<Item>
-        ensures takes { (t : Trace) (h : Holding) (done : List Taken) → IsLawful t → IsGateOf t h self.old → SemaphoresStandFor t (left_by_items t h.events done) sema.now → FencesStandFor t (left_by_items t h.events done) fences.now → Takes t h (next t (past t h.events (items_of done)) h) result self.new }
-        ensures falls { (t : Trace) (h : Holding) → IsGateOf t h self.old → IfSome result (λ item. self.new.total < self.old.total) }
+        ensures takes { (t : Trace) (h : Holding) (done : List Taken) → IsLawful t → IsGateOf t h self.old
+            → SemaphoresStandFor t (left_by_items t h.events done) sema.now
+            → FencesStandFor t (left_by_items t h.events done) fences.now
+            → Takes t h (next t (past t h.events (items_of done)) h) result self.new }
+        ensures falls { (t : Trace) (h : Holding) → IsGateOf t h self.old
+            → IfSome result (λ item. self.new.total < self.old.total) }
     {
         match self.first_lane(fences) {
             Some(lane) => self.take_call(lane),
@@ -108,7 +117,8 @@ impl Gate {
 
     /// What is held: the calls by lane, then the items by queue.
     pub fn held(&self) -> Result<List<Held>, AllocError>
-        ensures { (t : Trace) (history : List Mark) → IsGateOf t (flow t history).holding self.now → IfOk result (λ list. list ≡ held_items t history) }
+        ensures { (t : Trace) (history : List Mark) → IsGateOf t (flow t history).holding self.now
+            → IfOk result (λ list. list ≡ held_items t history) }
     {
         let mut list = List::new(self.alloc);
         for lane in 0..MANY {
@@ -122,8 +132,11 @@ impl Gate {
 
     // A recording is published.
     fn publish(&mut self, rec: u32) -> Result<(), AllocError>
-        ensures arrived { (t : Trace) (h : Holding) → IsGateOf t h self.old → OnOk result (IsGateOf t (arrived (record { done = []; holding = h }) (mark.Publish rec)).holding self.new) }
-        ensures fault { (t : Trace) (h : Holding) → IsGateOf t h self.old → OnErr result (IsGateOf t h self.new) }
+        ensures arrived { (t : Trace) (h : Holding) → IsGateOf t h self.old
+            → OnOk result (IsGateOf t (arrived (record { done = []; holding = h }) (mark.Publish rec)).holding
+            self.new) }
+        ensures fault { (t : Trace) (h : Holding) → IsGateOf t h self.old
+            → OnErr result (IsGateOf t h self.new) }
     {
         self.events.reserve(1)?;
         self.published.insert(rec)?;
@@ -133,8 +146,11 @@ impl Gate {
 
     // A call comes to its lane.
     fn come(&mut self, lane: u32, index: u32, event: u64) -> Result<(), AllocError>
-        ensures arrived { (t : Trace) (h : Holding) → IsGateOf t h self.old → event ≡ length h.events → OnOk result (IsGateOf t (arrived (record { done = []; holding = h }) (mark.Call lane index)).holding self.new) }
-        ensures fault { (t : Trace) (h : Holding) → IsGateOf t h self.old → OnErr result (IsGateOf t h self.new) }
+        ensures arrived { (t : Trace) (h : Holding) → IsGateOf t h self.old → event ≡ length h.events
+            → OnOk result (IsGateOf t (arrived (record { done = []; holding = h })
+            (mark.Call lane index)).holding self.new) }
+        ensures fault { (t : Trace) (h : Holding) → IsGateOf t h self.old
+            → OnErr result (IsGateOf t h self.new) }
     {
         self.events.reserve(1)?;
         let waiting = self.waiting(lane, index, event)?;
@@ -145,7 +161,8 @@ impl Gate {
 
     // The calls that a lane holds.
     fn push_calls(&self, list: &mut List<Held>, lane: u32) -> Result<(), AllocError>
-        ensures { OnOk result (list.new ≡ list.old ++ map (λ (x : Waiting). held.Call lane x.index) (slice_index_or self.now.lanes.items lane [])) }
+        ensures { OnOk result (list.new ≡ list.old
+            ++ map (λ (x : Waiting). held.Call lane x.index) (slice_index_or self.now.lanes.items lane [])) }
     {
         match self.lanes.get(lane as usize) {
             None => Ok(()),
@@ -155,7 +172,8 @@ impl Gate {
 
     // The call of that number, with what it will send.
     fn waiting(&self, lane: u32, index: u32, event: u64) -> Result<Waiting, AllocError>
-        ensures { IfOk result (λ waiting. IsMadeOf (kept_call self.now.scripts lane index) index event waiting) }
+        ensures { IfOk result (λ waiting. IsMadeOf
+            (kept_call self.now.scripts lane index) index event waiting) }
     {
         match self.call_of(lane, index) {
             None => Ok(Waiting {
@@ -184,7 +202,8 @@ impl Gate {
 
     // The call that came as that event.
     fn call_at(&self, event: u64) -> Option<&Call>
-        ensures { option_map (λ call. call.now) result ≡ kept_of_mark self.now.scripts (slice_get self.now.events.items event) }
+        ensures { option_map (λ call. call.now) result
+            ≡ kept_of_mark self.now.scripts (slice_get self.now.events.items event) }
     {
         match self.events.get(event as usize) {
             None => None,
@@ -195,7 +214,8 @@ impl Gate {
 
     // The batch of the submit that came as that event.
     fn batch_of(&self, event: u64, batch: u32) -> Option<&Batch>
-        ensures { option_map (λ b. b.now) result ≡ slice_get (batches_by (kept_of_mark self.now.scripts (slice_get self.now.events.items event))) batch }
+        ensures { option_map (λ b. b.now) result ≡ slice_get
+            (batches_by (kept_of_mark self.now.scripts (slice_get self.now.events.items event))) batch }
     {
         match self.call_at(event) {
             None => None,
@@ -205,7 +225,9 @@ impl Gate {
 
     // The lowest lane whose first call may go on.
     fn first_lane(&self, fences: &Fences) -> Option<u32>
-        ensures { (t : Trace) (h : Holding) (m : Made) (p : Past) → IsLawful t → IsGateOf t h self.now → FencesStandFor t m fences.now → Agrees t h.events m p → result ≡ position (starts (call_ready p h.events h.queues)) (first_calls t 0 h.lanes) }
+        ensures { (t : Trace) (h : Holding) (m : Made) (p : Past) → IsLawful t → IsGateOf t h self.now
+            → FencesStandFor t m fences.now → Agrees t h.events m p → result
+            ≡ position (starts (call_ready p h.events h.queues)) (first_calls t 0 h.lanes) }
     {
         for lane in 0..MANY {
             if self.lane_starts(lane, fences) {
@@ -217,7 +239,8 @@ impl Gate {
 
     // The first call that a lane holds.
     fn first_call(&self, lane: u32) -> Option<&Call>
-        ensures { option_map (λ call. call.now) result ≡ first_in self.now.scripts lane (slice_index_or self.now.lanes.items lane []) }
+        ensures { option_map (λ call. call.now) result
+            ≡ first_in self.now.scripts lane (slice_index_or self.now.lanes.items lane []) }
     {
         match self.lanes.get(lane as usize) {
             None => None,
@@ -229,7 +252,9 @@ impl Gate {
     }
 
     fn lane_starts(&self, lane: u32, fences: &Fences) -> bool
-        ensures { (t : Trace) (h : Holding) (m : Made) (p : Past) → IsLawful t → IsGateOf t h self.now → FencesStandFor t m fences.now → Agrees t h.events m p → result ≡ starts (call_ready p h.events h.queues) (slice_index_or (first_calls t 0 h.lanes) lane []) }
+        ensures { (t : Trace) (h : Holding) (m : Made) (p : Past) → IsLawful t → IsGateOf t h self.now
+            → FencesStandFor t m fences.now → Agrees t h.events m p → result
+            ≡ starts (call_ready p h.events h.queues) (slice_index_or (first_calls t 0 h.lanes) lane []) }
     {
         match self.first_call(lane) {
             None => false,
@@ -238,7 +263,9 @@ impl Gate {
     }
 
     fn call_is_ready(&self, call: &Call, fences: &Fences) -> bool
-        ensures { (t : Trace) (h : Holding) (m : Made) (p : Past) → IsGateOf t h self.now → FencesStandFor t m fences.now → Agrees t h.events m p → NamesItsFence t call.now → result ≡ ready_call p h.events h.queues call.now }
+        ensures { (t : Trace) (h : Holding) (m : Made) (p : Past) → IsGateOf t h self.now
+            → FencesStandFor t m fences.now → Agrees t h.events m p → NamesItsFence t call.now → result
+            ≡ ready_call p h.events h.queues call.now }
     {
         match call {
             Call::Submit { batches, .. } => are_published(&self.published, batches.as_slice()),
@@ -252,7 +279,9 @@ impl Gate {
 
     // The lowest queue whose first item may be taken.
     fn first_queue(&self, sema: &Semaphores) -> Option<usize>
-        ensures { (t : Trace) (h : Holding) (m : Made) (p : Past) → IsLawful t → IsGateOf t h self.now → SemaphoresStandFor t m sema.now → Agrees t h.events m p → result ≡ position (starts (item_ready t p h.events)) h.queues }
+        ensures { (t : Trace) (h : Holding) (m : Made) (p : Past) → IsLawful t → IsGateOf t h self.now
+            → SemaphoresStandFor t m sema.now → Agrees t h.events m p → result
+            ≡ position (starts (item_ready t p h.events)) h.queues }
     {
         for queue in 0..self.queues.len() {
             if self.queue_starts(queue, sema) {
@@ -263,7 +292,9 @@ impl Gate {
     }
 
     fn queue_starts(&self, queue: usize, sema: &Semaphores) -> bool
-        ensures { (t : Trace) (h : Holding) (m : Made) (p : Past) → IsLawful t → IsGateOf t h self.now → SemaphoresStandFor t m sema.now → Agrees t h.events m p → result ≡ starts (item_ready t p h.events) (slice_index_or h.queues queue []) }
+        ensures { (t : Trace) (h : Holding) (m : Made) (p : Past) → IsLawful t → IsGateOf t h self.now
+            → SemaphoresStandFor t m sema.now → Agrees t h.events m p → result
+            ≡ starts (item_ready t p h.events) (slice_index_or h.queues queue []) }
     {
         match first_item(&self.queues, queue) {
             None => false,
@@ -272,7 +303,9 @@ impl Gate {
     }
 
     fn item_is_ready(&self, item: Item, sema: &Semaphores) -> bool
-        ensures { (t : Trace) (h : Holding) (m : Made) (p : Past) → IsLawful t → IsGateOf t h self.now → SemaphoresStandFor t m sema.now → Agrees t h.events m p → result ≡ item_ready t p h.events item }
+        ensures { (t : Trace) (h : Holding) (m : Made) (p : Past) → IsLawful t → IsGateOf t h self.now
+            → SemaphoresStandFor t m sema.now → Agrees t h.events m p → result
+            ≡ item_ready t p h.events item }
     {
         match item {
             Item::Call { .. } => false,
@@ -286,8 +319,10 @@ impl Gate {
 
     // The first call of the lane is taken, and sends what it has to send.
     fn take_call(&mut self, lane: u32) -> Option<Item>
-        ensures takes { (t : Trace) (h : Holding) → IsGateOf t h self.old → Takes t h (from_lane t h lane (slice_index_or h.lanes lane [])) result self.new }
-        ensures falls { (t : Trace) (h : Holding) → IsGateOf t h self.old → IfSome result (λ item. self.new.total < self.old.total) }
+        ensures takes { (t : Trace) (h : Holding) → IsGateOf t h self.old
+            → Takes t h (from_lane t h lane (slice_index_or h.lanes lane [])) result self.new }
+        ensures falls { (t : Trace) (h : Holding) → IsGateOf t h self.old
+            → IfSome result (λ item. self.new.total < self.old.total) }
     {
         match pop_call(&mut self.lanes, lane) {
             None => None,
@@ -307,8 +342,10 @@ impl Gate {
 
     // The first item of the queue is taken.
     fn take_item(&mut self, queue: usize) -> Option<Item>
-        ensures takes { (t : Trace) (h : Holding) → IsGateOf t h self.old → Takes t h (from_queue h queue (slice_index_or h.queues queue [])) result self.new }
-        ensures falls { (t : Trace) (h : Holding) → IsGateOf t h self.old → IfSome result (λ item. self.new.total < self.old.total) }
+        ensures takes { (t : Trace) (h : Holding) → IsGateOf t h self.old
+            → Takes t h (from_queue h queue (slice_index_or h.queues queue [])) result self.new }
+        ensures falls { (t : Trace) (h : Holding) → IsGateOf t h self.old
+            → IfSome result (λ item. self.new.total < self.old.total) }
     {
         match pop_item(&mut self.queues, queue) {
             None => None,
@@ -362,7 +399,8 @@ fn are_recs_published(published: &BTreeSet<u32>, recs: &[u32]) -> bool
 }
 
 fn are_published(published: &BTreeSet<u32>, batches: &[Batch]) -> bool
-    ensures { result ≡ list_all (λ (b : Batch). list_all (contains nat_cmp published.now) b.recs) batches.now }
+    ensures { result ≡ list_all (λ (b : Batch). list_all (contains nat_cmp published.now) b.recs)
+        batches.now }
 {
     for batch in batches {
         if !are_recs_published(published, batch.recs.as_slice()) {

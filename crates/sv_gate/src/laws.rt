@@ -2,8 +2,10 @@
 //! account. Each function does nothing: its contract is the law.
 ghost use Rattle.sv_gate.specs.FlowLaws.{FlowHasItsEvents, LaterEventsLeave, TakingKeepsEvents};
 ghost use Rattle.sv_gate.specs.Kept.{LawfulBatchesFit, LawfulPastsAgree};
-ghost use Rattle.sv_gate.specs.ReadyLaws.{BatchesKeep, FencesStay, ReadySignalsFindRoom, ReadyWaitsFindSignals, SemaphoresStay, TakenBatchesAreReady};
-ghost use Rattle.sv_gate.specs.Accounts.{FencesAgree, TimelinesAgree, PairsAgree, BinariesAgree, BatchesAgree};
+ghost use Rattle.sv_gate.specs.ReadyLaws.{BatchesKeep, FencesStay, ReadySignalsFindRoom};
+ghost use Rattle.sv_gate.specs.ReadyLaws.{ReadyWaitsFindSignals, SemaphoresStay, TakenBatchesAreReady};
+ghost use Rattle.sv_gate.specs.Accounts.{FencesAgree, TimelinesAgree, PairsAgree, BinariesAgree};
+ghost use Rattle.sv_gate.specs.Accounts.{BatchesAgree};
 
 /// A fence is signalled, counted over the items, exactly where its state has a signal.
 pub fn fences_agree()

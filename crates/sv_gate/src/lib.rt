@@ -1,4 +1,8 @@
 //! Calls, batches and fence signals that wait, and the order in which they are taken.
+//!
+//! - knows items, lanes and queues, and no cell
+//! - definitions: `Holding` of `sv_model`; `Gates`, `Kept`; `FlowLaws`, `ReadyLaws` are laws
+//! - used by `sv_batch`
 #![tactic(auto)]
 
 mod calls;
@@ -13,3 +17,4 @@ mod tests;
 mod waiting;
 
 pub use gate::Gate;
+pub use sv_model::work::{Held, Item};

@@ -1,8 +1,8 @@
 //! The device queues: each holds its batches and fence signals in the order in which they were sent.
-ghost use Rattle.std.specs.Prelude.{◌≡◌, ◌<◌, ◌+◌, ◌^◌, ◌++◌, [], length, map, OnOk, slice_get, slice_index_or};
+ghost use Rattle.std.specs.Prelude.{◌≡◌, ◌<◌, ◌+◌, ◌^◌, ◌++◌, [], length, map, OnOk, slice_get};
+ghost use Rattle.std.specs.Prelude.{slice_index_or};
 ghost use Rattle.std.specs.List.{list_all};
-ghost use Rattle.sv_model.specs.Enabled.{is_empty};
-ghost use Rattle.sv_model.specs.Flow.{held_item as held_of, items_held};
+ghost use Rattle.sv_model.specs.Holding.{is_empty, held_item as held_of, items_held};
 ghost use Rattle.sv_gate.specs.Gates.{Pops, sent_to};
 
 use std::alloc::AllocError;

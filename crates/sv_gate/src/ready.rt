@@ -3,8 +3,9 @@
 ghost use Rattle.std.specs.Prelude.{◌≡◌, Some, count_by, nat_le, if◌then◌else◌};
 ghost use Rattle.std.specs.List.{list_all};
 ghost use Rattle.sv_model.specs.declared.line.Trace.{Trace};
-ghost use Rattle.sv_model.specs.Made.{Made, current_value};
-ghost use Rattle.sv_model.specs.Enabled as enabled;
+ghost use Rattle.sv_model.specs.Processed.{Made};
+ghost use Rattle.sv_model.specs.Semaphores.{current_value};
+ghost use Rattle.sv_model.specs.Semaphores as enabled;
 ghost use Rattle.sv_sema.specs.Stands.{StandFor, IsUseOf};
 ghost use Rattle.sv_gate.specs.Kept.{past_of, found, AreUsesOf, IsBatchOf};
 
@@ -22,13 +23,15 @@ fn is_found(pairing: Pairing) -> bool
 }
 
 fn serves(sema: &Semaphores, sem: u32, value: u64) -> bool
-    ensures { (t : Trace) (m : Made) → StandFor t m sema.now → IsUseOf t sem (Some value) → result ≡ nat_le value (current_value t m sem) }
+    ensures { (t : Trace) (m : Made) → StandFor t m sema.now → IsUseOf t sem (Some value) → result
+        ≡ nat_le value (current_value t m sem) }
 {
     is_found(sema.pair(sem, Some(value)))
 }
 
 fn is_served(sema: &Semaphores, wait: SemaphoreUse) -> bool
-    ensures { (t : Trace) (m : Made) → StandFor t m sema.now → IsUseOf t wait.sem wait.value → result ≡ enabled.wait_served (past_of t m) wait }
+    ensures { (t : Trace) (m : Made) → StandFor t m sema.now → IsUseOf t wait.sem wait.value → result
+        ≡ enabled.wait_served (past_of t m) wait }
 {
     match wait.value {
         None => true,
@@ -57,7 +60,8 @@ fn is_balanced(free: bool, waits: usize, signals: usize) -> bool
 }
 
 fn fits(sema: &Semaphores, batch: &Batch, one: SemaphoreUse) -> bool
-    ensures { (t : Trace) (m : Made) → StandFor t m sema.now → IsUseOf t one.sem one.value → result ≡ enabled.use_fits (past_of t m) batch.now one }
+    ensures { (t : Trace) (m : Made) → StandFor t m sema.now → IsUseOf t one.sem one.value → result
+        ≡ enabled.use_fits (past_of t m) batch.now one }
 {
     match one.value {
         Some(_) => true,
@@ -71,7 +75,8 @@ fn fits(sema: &Semaphores, batch: &Batch, one: SemaphoreUse) -> bool
 }
 
 fn all_served(sema: &Semaphores, waits: &[SemaphoreUse]) -> bool
-    ensures { (t : Trace) (m : Made) → StandFor t m sema.now → AreUsesOf t waits.now → result ≡ list_all (enabled.wait_served (past_of t m)) waits.now }
+    ensures { (t : Trace) (m : Made) → StandFor t m sema.now → AreUsesOf t waits.now → result
+        ≡ list_all (enabled.wait_served (past_of t m)) waits.now }
 {
     for wait in waits {
         if !is_served(sema, *wait) {
@@ -82,7 +87,8 @@ fn all_served(sema: &Semaphores, waits: &[SemaphoreUse]) -> bool
 }
 
 fn all_fit(sema: &Semaphores, batch: &Batch, uses: &[SemaphoreUse]) -> bool
-    ensures { (t : Trace) (m : Made) → StandFor t m sema.now → AreUsesOf t uses.now → result ≡ list_all (enabled.use_fits (past_of t m) batch.now) uses.now }
+    ensures { (t : Trace) (m : Made) → StandFor t m sema.now → AreUsesOf t uses.now → result
+        ≡ list_all (enabled.use_fits (past_of t m) batch.now) uses.now }
 {
     for one in uses {
         if !fits(sema, batch, *one) {
@@ -94,7 +100,8 @@ fn all_fit(sema: &Semaphores, batch: &Batch, uses: &[SemaphoreUse]) -> bool
 
 /// Whether the batch may run.
 pub fn batch_is_ready(sema: &Semaphores, batch: &Batch) -> bool
-    ensures { (t : Trace) (m : Made) → StandFor t m sema.now → IsBatchOf t batch.now → result ≡ enabled.batch_ready (past_of t m) batch.now }
+    ensures { (t : Trace) (m : Made) → StandFor t m sema.now → IsBatchOf t batch.now → result
+        ≡ enabled.batch_ready (past_of t m) batch.now }
 {
     let served = all_served(sema, batch.waits.as_slice());
     let waits_fit = all_fit(sema, batch, batch.waits.as_slice());

@@ -1,6 +1,6 @@
 //! A call that its lane holds, with what it will send.
 ghost use Rattle.std.specs.Prelude.{◌≡◌, ◌<◌, ◌^◌, ◌++◌, ◌∷◌, [], length, IfOk, OnOk};
-ghost use Rattle.sv_model.specs.Flow.{batches_from, fence_items};
+ghost use Rattle.sv_model.specs.Holding.{batches_from, fence_items};
 ghost use Rattle.sv_gate.specs.Calls.{sent_by};
 
 use crate::calls::Call;

@@ -1,4 +1,8 @@
 //! Traces made from a seed: works on one buffer by two lanes that take turns.
+//!
+//! - knows the text of the traces that it makes, and no type of them
+//! - definitions: `Draws`, `Generated`
+//! - used by `sv_app`
 #![tactic(auto)]
 
 mod draws;

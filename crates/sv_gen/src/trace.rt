@@ -12,7 +12,8 @@ const WORKS: u32 = 100;
 
 #[tactic(auto, unfolding(crate::specs::Generated::work_text))]
 fn push_work(text: &mut String, draws: &mut Draws, rec: u32) -> Result<(), AllocError>
-    ensures text { OnOk result (string_bytes text.new ≡ string_bytes text.old ++ work_text rec draws.old.state) }
+    ensures text { OnOk result (string_bytes text.new ≡ string_bytes text.old
+        ++ work_text rec draws.old.state) }
     ensures state { draws.new.state ≡ state_after draws.old.state 3 }
 {
     let work = draws.draw_work();
@@ -22,7 +23,8 @@ fn push_work(text: &mut String, draws: &mut Draws, rec: u32) -> Result<(), Alloc
 }
 
 fn push_works(text: &mut String, draws: &mut Draws, rec: u32, works: u32) -> Result<(), AllocError>
-    ensures text { OnOk result (string_bytes text.new ≡ string_bytes text.old ++ works_text rec draws.old.state works) }
+    ensures text { OnOk result (string_bytes text.new ≡ string_bytes text.old
+        ++ works_text rec draws.old.state works) }
     ensures state { OnOk result (draws.new.state ≡ state_after draws.old.state (3 * works)) }
 {
     for _ in 0..works {
@@ -38,7 +40,8 @@ fn push_recording(
     rec: u32,
     works: u32,
 ) -> Result<(), AllocError>
-    ensures text { OnOk result (string_bytes text.new ≡ string_bytes text.old ++ recording_text rec draws.old.state works) }
+    ensures text { OnOk result (string_bytes text.new ≡ string_bytes text.old
+        ++ recording_text rec draws.old.state works) }
     ensures state { OnOk result (draws.new.state ≡ state_after draws.old.state (3 * works)) }
 {
     let lane = rec % 2;
@@ -49,7 +52,8 @@ fn push_recording(
     Ok(())
 }
 
-/// The text of a trace with this many works, 1 to 100000, which the seed determines. Fails only for want of memory.
+/// The text of a trace with this many works, 1 to 100000, which the seed determines. Fails only for want of
+/// memory.
 pub fn generate(alloc: Global, seed: u64, count: u32) -> Result<Vec<u8>, AllocError>
     requires { (1 ≤ count) × (count ≤ 100000) }
     ensures { IfOk result (λ text. text.items ≡ generated seed count) }

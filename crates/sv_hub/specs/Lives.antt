@@ -1,7 +1,8 @@
 -- What a listener hears between its attach and its detach.
 use Rattle.std.specs.Prelude.{ℕ, ◌≡◌, ◌≢◌, ◌+◌, List, [], ◌++◌, Contains}
 use Rattle.sv_model.specs.declared.work.Report.{Report}
-use Rattle.sv_hub.specs.Attachments.{Attached, Attachments, HasHeard, HasRoom, IsJoined, IsNumbered, IsTaken, UsesRoom}
+use Rattle.sv_hub.specs.Attachments.{Attached, Attachments, HasHeard, HasRoom, IsJoined, IsNumbered}
+use Rattle.sv_hub.specs.Attachments.{IsTaken, UsesRoom}
 
 -- a listener with this number is attached, and has heard these reports
 pub record Holds (number : ℕ) (heard : List Report) (hub : Attachments) : Type 0 where

@@ -1,6 +1,7 @@
 //! The listeners that are attached.
 ghost use Rattle.std.specs.Prelude.{◌≡◌, [], ◌<◌, ◌-◌, ◌^◌, ◌∷◌, map, OnOk, IfOk, IfErr, MatchOption};
-ghost use Rattle.sv_hub.specs.Attachments.{AreNumbered, AsksNothing, Attachments, HasHeard, HasRoom, IsAbsent, IsJoined, IsNumbered, IsTaken, KeepsRoom, UsesRoom};
+ghost use Rattle.sv_hub.specs.Attachments.{AreNumbered, AsksNothing, Attachments, HasHeard, HasRoom};
+ghost use Rattle.sv_hub.specs.Attachments.{IsAbsent, IsJoined, IsNumbered, IsTaken, KeepsRoom, UsesRoom};
 
 use crate::Listener;
 use crate::entry::{Entry, Seat, hear_all, place_of, reserve_all};

@@ -1,4 +1,8 @@
 //! Listeners of reports: what each of them has heard.
+//!
+//! - knows reports as values, and no text
+//! - definitions: `Attachments`, `Lives`
+//! - used by `sv_app`
 #![tactic(auto)]
 
 mod entry;

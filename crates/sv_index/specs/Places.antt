@@ -1,5 +1,6 @@
 -- The first place of each number among recordings.
-use Rattle.std.specs.Prelude.{ℕ, ◌≡◌, ◌<◌, ◌==◌, List, Option, Some, None, find, length, slice_get, if◌then◌else◌}
+use Rattle.std.specs.Prelude.{ℕ, ◌≡◌, ◌<◌, ◌==◌, List, Option, Some, None, find, length, slice_get}
+use Rattle.std.specs.Prelude.{if◌then◌else◌}
 use Rattle.std.specs.BTreeMap.{BTreeMap, get}
 use Rattle.std.specs.Option.{option_or}
 use Rattle.std.specs.Ordering.{nat_cmp}
@@ -12,7 +13,8 @@ first_of recordings number = find (λ (r : Recording). r.rec == number) recordin
 -- the first recording with that number stands there, or there is none
 abbrev pub IsPlaceOf : List Recording → ℕ → Option ℕ → Type 0
 IsPlaceOf recordings number None = first_of recordings number ≡ None
-IsPlaceOf recordings number (Some place) = (place < length recordings) × (first_of recordings number ≡ slice_get recordings place)
+IsPlaceOf recordings number (Some place) = (place < length recordings)
+    × (first_of recordings number ≡ slice_get recordings place)
 
 -- the table has the place of each number
 abbrev pub ArePlaces : List Recording → BTreeMap ℕ ℕ → Type 0
@@ -20,4 +22,5 @@ ArePlaces recordings places = (number : ℕ) → IsPlaceOf recordings number (ge
 
 -- a number is noted at a place, where it was not noted before
 abbrev pub Notes : BTreeMap ℕ ℕ → BTreeMap ℕ ℕ → ℕ → ℕ → Type 0
-Notes old new number place = (n : ℕ) → get nat_cmp new n ≡ option_or (get nat_cmp old n) (if number == n then Some place else None)
+Notes old new number place = (n : ℕ) → get nat_cmp new n
+    ≡ option_or (get nat_cmp old n) (if number == n then Some place else None)

@@ -10,8 +10,8 @@ use std::alloc::{AllocError, Global};
 use std::collections::BTreeMap;
 use sv_model::line::{Recording, Trace};
 
-/// Where each recording of a trace stands among its recordings. Made once for a trace, so that finding a recording
-/// costs no walk over all of them.
+/// Where each recording of a trace stands among its recordings. Made once for a trace, so that finding a
+/// recording costs no walk over all of them.
 #[derive(Drop)]
 pub struct RecordingIndex {
     places: BTreeMap<u32, usize>,

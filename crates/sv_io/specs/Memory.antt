@@ -31,4 +31,5 @@ after_call s = record s { call = min (s.call + 1) (2 ^ 64 - 1) }
 
 -- the sink's next call is one of those that fail, or takes it past its room
 abbrev pub FailsAt : SinkInMemory → ℕ → Type 0
-FailsAt s wanted = Contains s.script.fails s.script.call ⊎ (s.room < length s.written + allowed s.script wanted)
+FailsAt s wanted = Contains s.script.fails s.script.call
+    ⊎ (s.room < length s.written + allowed s.script wanted)

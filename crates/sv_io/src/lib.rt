@@ -1,5 +1,9 @@
-//! Sources and sinks of bytes, each with a count of its faults, reading and writing whole texts, and the pace of a
-//! replay.
+//! Sources and sinks of bytes, each with a count of its faults, reading and writing whole texts, and the
+//! pace of a replay.
+//!
+//! - knows no trace: bytes, faults and memory
+//! - definitions: `Causes`, `Memory`
+//! - used by `sv_device`
 #![tactic(auto)]
 
 mod memory;

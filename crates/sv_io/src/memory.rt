@@ -1,5 +1,6 @@
 // A source and a sink in memory, whose calls follow a script of piece sizes and faults.
-ghost use Rattle.std.specs.Prelude.{◌≡◌, ℕ, ◌+◌, ◌-◌, ◌^◌, ◌≤◌, ◌<◌, ◌↔◌, [], length, IfOk, Some, drop, min, vec_len, false, All, Contains, IsErr, IsNone, IfSome};
+ghost use Rattle.std.specs.Prelude.{◌≡◌, ℕ, ◌+◌, ◌-◌, ◌^◌, ◌≤◌, ◌<◌, ◌↔◌, [], length, IfOk, Some, drop};
+ghost use Rattle.std.specs.Prelude.{min, vec_len, false, All, Contains, IsErr, IsNone, IfSome};
 ghost use Rattle.std.specs.Io.{ReadsAtMost};
 ghost use Rattle.std.specs.Io.KnownBytes.{ReadConsumes, WriteAppends};
 ghost use Rattle.sv_io.specs.Causes.{HasCause, count_of, is_end};
@@ -75,13 +76,20 @@ impl Model for MemSource {
 
     ghost Value = { SourceInMemory };
 
-    ghost view = { λ s. record { left = drop s.place s.bytes.items; given = s.place; ended = s.ended; faults = s.faults; script = s.plan } };
+    ghost view = { λ s. record {
+      left = drop s.place s.bytes.items;
+      given = s.place;
+      ended = s.ended;
+      faults = s.faults;
+      script = s.plan;
+    } };
 
     ghost invariant = { λ s. s.place ≤ vec_len s.bytes };
 }
 
 impl MemSource {
-    /// A source of these bytes. Calls count from 0: the i-th takes at most the i-th of `pieces`, where there is one, and those in `fails` fail. No piece is 0.
+    /// A source of these bytes. Calls count from 0: the i-th takes at most the i-th of `pieces`, where
+    /// there is one, and those in `fails` fail. No piece is 0.
     pub fn new(bytes: Vec<u8>, pieces: Vec<usize>, fails: Vec<u64>) -> MemSource
         requires { All (λ size. 0 < size) pieces.items }
         ensures { result ≡ record {
@@ -122,7 +130,8 @@ impl Source for MemSource {
 
         // It goes as its script says.
         ensures fails { IsErr result ↔ Contains self.old.script.fails self.old.script.call }
-        ensures count { IfOk result (λ n. n ≡ min (allowed self.old.script (length buf.old)) (length self.old.left)) }
+        ensures count { IfOk result (λ n. n ≡ min (allowed self.old.script (length buf.old))
+            (length self.old.left)) }
         ensures script { self.new.script ≡ after_call self.old.script }
     {
         match self.plan.next(buf.len()) {
@@ -158,13 +167,20 @@ impl Model for MemSink {
 
     ghost Value = { SinkInMemory };
 
-    ghost view = { λ s. record { written = s.bytes.items; room = s.room; faults = s.faults; script = s.plan } };
+    ghost view = { λ s. record {
+      written = s.bytes.items;
+      room = s.room;
+      faults = s.faults;
+      script = s.plan;
+    } };
 
     ghost invariant = { λ s. (vec_len s.bytes ≤ s.room) × (s.room ≤ vec_capacity s.bytes) };
 }
 
 impl MemSink {
-    /// A sink with room for so many bytes. Calls count from 0: the i-th takes at most the i-th of `pieces`, where there is one, and those in `fails` fail, as does one past the room. No piece is 0. Fails only for want of memory.
+    /// A sink with room for so many bytes. Calls count from 0: the i-th takes at most the i-th of `pieces`,
+    /// where there is one, and those in `fails` fail, as does one past the room. No piece is 0. Fails only
+    /// for want of memory.
     pub fn new(
         alloc: Global,
         room: usize,

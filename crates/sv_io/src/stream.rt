@@ -4,7 +4,8 @@ ghost use Rattle.std.specs.Io.{ReadsAtMost};
 ghost use Rattle.std.specs.Io.KnownBytes.{ReadConsumes, WriteAppends};
 ghost use Rattle.sv_io.specs.Causes.{HasCause, count_of, is_end};
 
-/// A read or a write went wrong, and the stream's count of faults rose (at the count's last value, 2^64 - 1, it stands).
+/// A read or a write went wrong, and the stream's count of faults rose (at the count's last value, 2^64 -
+/// 1, it stands).
 #[derive(Clone, Copy)]
 pub struct Failed;
 

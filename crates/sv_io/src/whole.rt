@@ -1,5 +1,6 @@
 // Whole texts, read to their end and written to their last byte.
-ghost use Rattle.std.specs.Prelude.{◌≡◌, ◌≢◌, ℕ, true, ◌+◌, ◌<◌, ◌≤◌, ◌↔◌, length, take, vec_len, IfOk, IfSome, OnErr, OnOk, IsErrOf};
+ghost use Rattle.std.specs.Prelude.{◌≡◌, ◌≢◌, ℕ, true, ◌+◌, ◌<◌, ◌≤◌, ◌↔◌, length, take, vec_len, IfOk};
+ghost use Rattle.std.specs.Prelude.{IfSome, OnErr, OnOk, IsErrOf};
 ghost use Rattle.std.specs.Io.KnownBytes.{Appends, IsAtEnd};
 ghost use Rattle.sv_io.specs.Causes.{HasCause, Rose};
 
@@ -34,12 +35,15 @@ fn blank_piece(alloc: Global) -> Result<Vec<u8>, AllocError>
     vec![in alloc; 0; PIECE]
 }
 
-/// Reads to the end, and gives all bytes that were read. Stops with `Failed` at the first fault, with `TooLong` at the first read with which the text has more than [`MAX_TEXT`] bytes, and with `Memory` for want of memory.
+/// Reads to the end, and gives all bytes that were read. Stops with `Failed` at the first fault, with
+/// `TooLong` at the first read with which the text has more than [`MAX_TEXT`] bytes, and with `Memory` for
+/// want of memory.
 pub fn read_all<S: Source>(alloc: Global, source: &mut S) -> Result<Vec<u8>, ReadStop>
     ensures failed { IsErrOf result ReadStop.Failed → Rose (S.faults source.old) (S.faults source.new) }
     ensures no_fault { result ≢ Err ReadStop.Failed → S.faults source.new ≡ S.faults source.old }
-    ensures too_long { IsErrOf result ReadStop.TooLong ↔ (S.given source.old + MAX_TEXT < S.given source.new) }
-    ensures limit { result ≢ Err ReadStop.TooLong → S.given source.new ≤ S.given source.old + MAX_TEXT }
+    ensures too_long { IsErrOf result ReadStop.TooLong
+        ↔ (S.given source.old + 67108864 < S.given source.new) }
+    ensures limit { result ≢ Err ReadStop.TooLong → S.given source.new ≤ S.given source.old + 67108864 }
     ensures forward { S.given source.old ≤ S.given source.new }
     ensures given { IfOk result (λ v. S.given source.new ≡ S.given source.old + vec_len v) }
     ensures ended { OnOk result (S.ended source.new ≡ true) }
@@ -71,7 +75,8 @@ pub fn read_all<S: Source>(alloc: Global, source: &mut S) -> Result<Vec<u8>, Rea
 pub fn write_all<K: Sink>(sink: &mut K, bytes: &[u8]) -> Result<(), Failed>
     ensures cause { HasCause (K.faults sink.old) (K.faults sink.new) result }
     ensures ok { OnOk result (Appends (K.written sink.old) (K.written sink.new) bytes.now) }
-    ensures prefix { OnErr result ((n : ℕ) × (n ≤ length bytes.now) × Appends (K.written sink.old) (K.written sink.new) (take n bytes.now)) }
+    ensures prefix { OnErr result ((n : ℕ) × (n ≤ length bytes.now)
+        × Appends (K.written sink.old) (K.written sink.new) (take n bytes.now)) }
 {
     let mut done = 0;
     while done < bytes.len() {

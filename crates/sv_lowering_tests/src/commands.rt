@@ -79,7 +79,8 @@ fn on_buffer(usage: u8, sub: Option<(u64, u32)>, at: (u32, u64)) -> Item {
     })
 }
 
-// A use of the attachment with this layer: the instance, the command, the step and the position are at the end.
+// A use of the attachment with this layer: the instance, the command, the step and the position are at the
+// end.
 fn used(on: u32, usage: u8, layout: Layout, at: (u64, u32, u64, u32)) -> Item {
     Item::Access(Access {
         area: layer(on),

@@ -83,7 +83,8 @@ pub fn items_of(alloc: Global, steps: &[Step]) -> Result<Vec<Item>, AllocError> 
     Ok(items)
 }
 
-/// The items of the recording with this number of a text. None where the text is refused or has no such recording.
+/// The items of the recording with this number of a text. None where the text is refused or has no such
+/// recording.
 pub fn items_in(alloc: Global, text: &str, number: u32) -> Result<Option<Vec<Item>>, AllocError> {
     let Ok(trace) = read_text(alloc, text.as_bytes()) else {
         return Ok(None);

@@ -5,9 +5,9 @@ use sv_mask::{Layout, Stages, Usage, Usages};
 use sv_model::work::{Access, Area, Dep, Old, Place, Track, What};
 use sv_range::Cells;
 
-// A pass of three subpasses. Attachment 0 is used in the first two with two layouts, attachment 1 in the first one,
-// attachments 2 and 4 in the last one, attachment 3 in none. The second subpass has a dependency on itself. The entry
-// of the third one and the exits of the first two have no dependency.
+// A pass of three subpasses. Attachment 0 is used in the first two with two layouts, attachment 1 in the
+// first one, attachments 2 and 4 in the last one, attachment 3 in none. The second subpass has a dependency
+// on itself. The entry of the third one and the exits of the first two have no dependency.
 const PASS: &str = r#"{"op":"queue","queue":0,"family":0,"lane":0}
 {"op":"image","res":6,"mips":2,"layers":5}
 {"op":"render_pass","pass":4,"attachments":[{"class":"color","load":"clear","store":"store","initial":"undefined","final":"present_src"},{"class":"depth","load":"load","store":"none","initial":"depth_stencil_attachment_optimal","final":"depth_stencil_attachment_optimal"},{"class":"color","load":"dont_care","store":"dont_care","initial":"color_attachment_optimal","final":"color_attachment_optimal"},{"class":"color","load":"load","store":"store","initial":"undefined","final":"general"},{"class":"depth","load":"clear","store":"store","initial":"undefined","final":"depth_stencil_read_only_optimal"}],"subpasses":[{"uses":[{"att":0,"layout":"color_attachment_optimal"},{"att":1,"layout":"depth_stencil_attachment_optimal"}]},{"uses":[{"att":0,"layout":"shader_read_only_optimal"}]},{"uses":[{"att":4,"layout":"depth_stencil_attachment_optimal"},{"att":2,"layout":"color_attachment_optimal"}]}],"deps":[{"from":"external","to":0,"src":["copy"],"src_access":["transfer_write"],"dst":["color_attachment_output"],"dst_access":["color_attachment_write"]},{"from":0,"to":1,"src":["color_attachment_output"],"src_access":["color_attachment_write"],"dst":["fragment_shader"],"dst_access":["input_attachment_read"]},{"from":1,"to":1,"src":["fragment_shader"],"src_access":["shader_storage_write"],"dst":["fragment_shader"],"dst_access":["shader_storage_read"]},{"from":2,"to":"external","src":["late_fragment_tests"],"src_access":["depth_stencil_attachment_write"],"dst":["copy"],"dst_access":["transfer_read"]}]}
@@ -73,7 +73,8 @@ fn dep(first: (Track, u32, u64), second: (Track, u32, u64)) -> Item {
     })
 }
 
-// A use of the attachment with this number in a subpass: the command, the step and the position are at the end.
+// A use of the attachment with this number in a subpass: the command, the step and the position are at the
+// end.
 fn used(att: u32, usage: u8, subpass: u32, layout: Layout, at: (u32, u64, u32)) -> Item {
     Item::Access(Access {
         area: layer(att),

@@ -17,8 +17,8 @@ fn is_declared(trace: &Trace, index: &Index, number: u32) -> bool
     index.recordings.find(trace, number).is_some()
 }
 
-/// The recording with this number, finished: each of its commands is lowered. None where the trace has no such
-/// recording.
+/// The recording with this number, finished: each of its commands is lowered. None where the trace has no
+/// such recording.
 pub fn record(alloc: Global, trace: &Trace, number: u32) -> Result<Option<Recorded>, AllocError>
     requires { IsLawful trace.now }
     ensures { IfOk result (λ found. IfSome found (λ recorded. recorded.of.value ≡ trace.now)) }

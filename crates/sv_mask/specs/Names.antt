@@ -85,7 +85,11 @@ plain_accesses =
 
 -- a mask of the accesses with these numbers, without memory_read and memory_write
 abbrev pub access_word : List ℕ → AccessWord
-access_word numbers = record { plain = record { 0 = set_of numbers }; memory_read = false; memory_write = false }
+access_word numbers = record {
+  plain = record { 0 = set_of numbers };
+  memory_read = false;
+  memory_write = false;
+}
 
 -- The further names in a mask of accesses: shader_read is shader_sampled_read (4) and
 -- shader_storage_read (5), shader_write is shader_storage_write (6).
@@ -126,10 +130,12 @@ unfoldable pub layout_named : List ℕ → Option Layout
 layout_named = named layouts
 
 unfoldable pub stage_named : List ℕ → Option StageWord
-stage_named = named (map (λ row. (row.0, stage_word (stage_number row.1 ∷ []))) plain_stages ++ further_stages)
+stage_named = named (map (λ row. (row.0, stage_word (stage_number row.1 ∷ []))) plain_stages
+    ++ further_stages)
 
 unfoldable pub access_named : List ℕ → Option AccessWord
-access_named = named (map (λ row. (row.0, access_word (access_number row.1 ∷ []))) plain_accesses ++ further_accesses)
+access_named = named (map (λ row. (row.0, access_word (access_number row.1 ∷ []))) plain_accesses
+    ++ further_accesses)
 
 -- the names of a usage's access and of its stage
 unfoldable pub usage_text : ℕ → List ℕ × List ℕ

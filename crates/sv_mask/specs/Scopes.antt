@@ -1,6 +1,7 @@
 -- What a mask names, and how far its synchronization and access scopes reach
 -- (Vulkan, "Synchronization").
-use Rattle.std.specs.Prelude.{ℕ, zero, suc, ◌+◌, ◌^◌, Bool, ◌&&◌, ◌||◌, ◌==◌, not, nat_le, nat_lt, bit_or, if◌then◌else◌}
+use Rattle.std.specs.Prelude.{ℕ, zero, suc, ◌+◌, ◌^◌, Bool, ◌&&◌, ◌||◌, ◌==◌, not, nat_le, nat_lt, bit_or}
+use Rattle.std.specs.Prelude.{if◌then◌else◌}
 use Rattle.std.specs.List.{list_any, list_all, range_with_len}
 use Rattle.sv_mask.specs.Sets.{Has, has, set_of}
 use Rattle.sv_mask.specs.Usages.{stage_of, access_of, is_write}
@@ -66,7 +67,8 @@ second_sync word = stages_where (λ k. names_some word (λ j. precedes j k) || (
 
 -- an access is named plainly, or by whether it reads or writes
 abbrev pub names_usage : AccessWord → ℕ → Bool
-names_usage word u = has word.plain.0 (access_of u) || (word.memory_read && not (is_write u)) || (word.memory_write && is_write u)
+names_usage word u = has word.plain.0 (access_of u) || (word.memory_read && not (is_write u))
+    || (word.memory_write && is_write u)
 
 -- the usages whose stage and whose access are named
 unfoldable pub access : StageWord → AccessWord → Usages
@@ -82,15 +84,18 @@ names_all word = list_all (names_stage word) (range_with_len 0 16)
 
 -- some named stage has a usage with this access
 abbrev pub has_usage_at : StageWord → ℕ → Bool
-has_usage_at word access = list_any (λ u. names_stage word (stage_of u) && access_of u == access) (range_with_len 0 43)
+has_usage_at word access = list_any (λ u. names_stage word (stage_of u) && access_of u == access)
+    (range_with_len 0 43)
 
 -- each access that is named otherwise than by memory_read or memory_write has a usage at some named stage
 unfoldable pub supported : StageWord → AccessWord → Bool
-supported stages accesses = list_all (λ a. not (has accesses.plain.0 a) || has_usage_at stages a) (range_with_len 0 16)
+supported stages accesses = list_all (λ a. not (has accesses.plain.0 a) || has_usage_at stages a)
+    (range_with_len 0 16)
 
 -- all that a mask names the other names too
 abbrev pub names_all_of : StageWord → StageWord → Bool
-names_all_of word other = list_all (λ k. not (names_stage other k) || names_stage word k) (range_with_len 0 17) && (not other.top || word.top) && (not other.bottom || word.bottom)
+names_all_of word other = list_all (λ k. not (names_stage other k) || names_stage word k)
+    (range_with_len 0 17) && (not other.top || word.top) && (not other.bottom || word.bottom)
 
 -- all usages of a set are in the other
 abbrev pub has_usages : Usages → Usages → Bool
@@ -99,10 +104,12 @@ has_usages set other = list_all (λ u. not (has other.0 u) || has set.0 u) (rang
 -- One half of a dependency holds one half of another: its stage mask has all that the other's names, and its
 -- access scope has the other's.
 unfoldable pub is_within : StageWord → AccessWord → StageWord → AccessWord → Bool
-is_within stages accesses of_stages of_accesses = names_all_of of_stages stages && has_usages (access of_stages of_accesses) (access stages accesses)
+is_within stages accesses of_stages of_accesses =
+    names_all_of of_stages stages && has_usages (access of_stages of_accesses) (access stages accesses)
 
 -- A dependency of a subpass on itself holds a barrier in the subpass: both halves of it.
-abbrev pub is_in_self_dependency : StageWord → AccessWord → StageWord → AccessWord → StageWord → AccessWord → StageWord → AccessWord → Bool
+abbrev pub is_in_self_dependency : StageWord → AccessWord → StageWord → AccessWord → StageWord → AccessWord
+    → StageWord → AccessWord → Bool
 is_in_self_dependency src src_access dst dst_access of_src of_src_access of_dst of_dst_access =
     is_within src src_access of_src of_src_access && is_within dst dst_access of_dst of_dst_access
 

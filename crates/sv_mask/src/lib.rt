@@ -1,4 +1,8 @@
 //! Pipeline stages, accesses, usages and image layouts, and sets of them.
+//!
+//! - knows no trace: names, bits and the table of usages
+//! - definitions: `Names`, `Scopes`, `Sets`, `Usages`
+//! - used by `sv_name`, `sv_expand`, `sv_model`
 #![tactic(auto)]
 
 mod access;

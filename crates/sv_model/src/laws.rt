@@ -1,6 +1,8 @@
 //! Laws of the definitions. Each function does nothing: its contract is the law.
 ghost use Rattle.sv_model.specs.Composition.{ChainsCompose, OrderIsChain};
-ghost use Rattle.sv_model.specs.Laws.{FlowGrows, LaterEventsAdd, LawfulAttachmentsFit, LawfulIsPlain, LawfulPassIsSmall, LawfulViewsFit, LoweringGrows, SettlingEnds, WorkGrows};
+ghost use Rattle.sv_model.specs.Laws.{FlowGrows, LaterEventsAdd, LawfulAttachmentsFit, LawfulIsPlain};
+ghost use Rattle.sv_model.specs.Laws.{LawfulPassIsSmall, LawfulViewsFit, LoweringGrows, SettlingEnds};
+ghost use Rattle.sv_model.specs.Laws.{WorkGrows};
 ghost use Rattle.sv_model.specs.ReplyLaws.{NotesGrow, RepliesStay};
 ghost use Rattle.sv_model.specs.Silent.{SilentStepsHaveNoNotes};
 ghost use Rattle.sv_model.specs.Standing.{SettledIsReached, StandingGrows};

@@ -1,4 +1,8 @@
 //! The names of stages, accesses, usages and layouts.
+//!
+//! - knows the words of a text for masks and layouts
+//! - definitions: `Names` of `sv_mask`
+//! - used by `sv_parts`, `sv_report`
 #![tactic(auto)]
 
 mod accesses;

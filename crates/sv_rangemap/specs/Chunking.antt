@@ -9,7 +9,8 @@ items_in {T} chunks = flat_map (λ (c : Chunk T). c.items.items) chunks
 
 -- so many chunks know how many items stand before them
 abbrev pub AreCounted : {T : Type 0} → ℕ → List (Chunk T) → Type 0
-AreCounted {T} upto chunks = (k : ℕ) (d : Chunk T) → k < upto → (slice_index_or chunks k d).first ≡ length (items_in (take k chunks))
+AreCounted {T} upto chunks = (k : ℕ) (d : Chunk T) → k < upto → (slice_index_or chunks k d).first
+    ≡ length (items_in (take k chunks))
 
 -- there is a chunk, each knows how many items stand before it, and together they have so many
 pub record AreChunks {T : Type 0} (len : ℕ) (chunks : List (Chunk T)) : Type 0 where

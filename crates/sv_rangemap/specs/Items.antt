@@ -8,4 +8,5 @@ pub record Items (T : Type 0) : Type 0 where
 
 -- stored as the list
 abbrev pub items_code : {T : Type 0} → Coded T → Coded (Items T)
-items_code {T} code = code_by (List T) (coded_list code) (λ i. i.items) (λ l. record { items = l }) (λ _. refl)
+items_code {T} code = code_by (List T) (coded_list code) (λ i. i.items) (λ l. record { items = l })
+    (λ _. refl)

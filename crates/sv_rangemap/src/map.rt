@@ -24,7 +24,8 @@ impl<V: Piece> RangeMap<V> {
     pub fn new(alloc: Global, size: u64, value: V) -> Result<RangeMap<V>, AllocError>
         requires { 0 < size }
         ensures size { IfOk result (λ map. map.size ≡ size) }
-        ensures whole { IfOk result (λ map. map.parts.items ≡ record { span = record { start = 0; end = size }; value = value } ∷ []) }
+        ensures whole { IfOk result (λ map. map.parts.items
+            ≡ record { span = record { start = 0; end = size }; value = value } ∷ []) }
     {
         let span = Span {
             start: 0,
@@ -51,7 +52,8 @@ impl<V: Piece> RangeMap<V> {
     /// The piece at that place: its span, and the value of its cells.
     pub fn piece(&self, index: usize) -> (Span, &V)
         requires { index < length self.now.parts.items }
-        ensures { (d : Part V) → slice_index_or self.now.parts.items index d ≡ record { span = result.0; value = result.1.now } }
+        ensures { (d : Part V) → slice_index_or self.now.parts.items index d
+            ≡ record { span = result.0; value = result.1.now } }
     {
         let part = self.parts.get(index);
         (part.span, &part.value)
@@ -90,7 +92,9 @@ impl<V: Piece> RangeMap<V> {
         ensures size { self.new.size ≡ self.old.size }
         ensures had { (d : Part V) → (slice_index_or self.old.parts.items index d).value ≡ result }
         ensures replaced { IsReplaced index value self.old.parts.items self.new.parts.items }
-        ensures put { (d : Part V) → self.new.parts.items ≡ set self.old.parts.items index (record { span = (slice_index_or self.old.parts.items index d).span; value = value }) }
+        ensures put { (d : Part V) → self.new.parts.items
+            ≡ set self.old.parts.items index (record
+            { span = (slice_index_or self.old.parts.items index d).span; value = value }) }
     {
         replace(&mut self.parts.get_mut(index).value, value)
     }

@@ -8,8 +8,8 @@ use Rattle.sv_model.specs.declared.line.Command.TheVariants as command
 use Rattle.sv_model.specs.declared.line.View.{View}
 use Rattle.sv_model.specs.declared.work.Step.{Step}
 use Rattle.sv_model.specs.Declarations.{recording_of, commands_of, pass_of}
-use Rattle.sv_model.specs.Compile as compile
-use Rattle.sv_model.specs.Compile.{Scope, InRendering, InPass, scope_after, begins, lowered}
+use Rattle.sv_model.specs.Recordings as compile
+use Rattle.sv_model.specs.Recordings.{Scope, InRendering, InPass, scope_after, begins, lowered}
 use Rattle.sv_model.specs.Lawful.{IsLawful}
 use Rattle.sv_model.specs.Laws.{IsSmallPass}
 use Rattle.sv_model.specs.Plain.{AttachmentFits, IsPlain, ViewFits}
@@ -37,8 +37,10 @@ IsWhole c = c.pushed ≡ length (commands_of c.trace c.number)
 -- what is kept of the open scope stands for it
 abbrev pub StandsFor : Trace → Open → ℕ → Scope → Type 0
 StandsFor t opened.Outside i scope = scope ≡ compile.Outside
-StandsFor t (opened.Rendering attachments) i scope = (scope ≡ InRendering attachments) × (length attachments ≤ 16) × All AttachmentFits attachments
-StandsFor t (opened.Pass begun) i scope = (pass : ℕ) × (views : List View) × (scope ≡ InPass pass views i) × IsBegun (pass_of t pass) views begun
+StandsFor t (opened.Rendering attachments) i scope = (scope ≡ InRendering attachments)
+    × (length attachments ≤ 16) × All AttachmentFits attachments
+StandsFor t (opened.Pass begun) i scope = (pass : ℕ) × (views : List View) × (scope ≡ InPass pass views i)
+    × IsBegun (pass_of t pass) views begun
 
 -- the attachments of dynamic rendering are few, and their numbers fit
 abbrev pub OpenFits : Open → Type 0
@@ -48,9 +50,11 @@ OpenFits (opened.Pass begun) = Unit {0}
 
 -- what the trace rules say of a command by itself and of the pass that it begins
 abbrev pub CommandFits : List Line → Command → Type 0
-CommandFits passes (command.BeginRendering attachments) = (length attachments ≤ 16) × All AttachmentFits attachments
+CommandFits passes (command.BeginRendering attachments) = (length attachments ≤ 16)
+    × All AttachmentFits attachments
 CommandFits passes command.EndRendering = Unit {0}
-CommandFits passes (command.BeginPass pass views) = IsSmallPass (pass_in passes pass) × (length views ≡ length (pass_in passes pass).attachments) × All ViewFits views
+CommandFits passes (command.BeginPass pass views) = IsSmallPass (pass_in passes pass)
+    × (length views ≡ length (pass_in passes pass).attachments) × All ViewFits views
 CommandFits passes command.NextSubpass = Unit {0}
 CommandFits passes command.EndPass = Unit {0}
 CommandFits passes plain = IsPlain plain
@@ -65,7 +69,8 @@ subpass_after command.EndPass i = 0
 subpass_after plain i = i
 
 -- The fields stand for the first commands of the recording.
-pub record Stands (t : Trace) (number family pushed begun : ℕ) (scope : Open) (subpass : ℕ) (steps : List Step) : Type 0 where
+pub record Stands (t : Trace) (number family pushed begun : ℕ) (scope : Open) (subpass : ℕ)
+    (steps : List Step) : Type 0 where
   pub lawful : IsLawful t
   pub recording : Recording
   pub declared : recording_of t number ≡ Some recording

@@ -2,7 +2,7 @@
 ghost use Rattle.std.specs.Prelude.{ℕ, ◌≡◌, ◌≤◌, ◌+◌, ◌<◌, ◌^◌, All, IfOk, length};
 ghost use Rattle.sv_model.specs.declared.line.Trace.{Trace};
 ghost use Rattle.sv_model.specs.declared.line.Command.TheVariants as command;
-ghost use Rattle.sv_model.specs.Compile as definition;
+ghost use Rattle.sv_model.specs.Recordings as definition;
 ghost use Rattle.sv_model.specs.Plain.{AttachmentFits, ViewFits};
 ghost use Rattle.sv_pass.specs.Begun.{pass_in};
 ghost use Rattle.sv_record.specs.Contexts.{StandsFor};
@@ -24,8 +24,10 @@ pub fn begin_rendering(
 ) -> Result<(Open, List<Step>), AllocError>
     requires few { length attachments.now ≤ 16 }
     requires fit { All AttachmentFits attachments.now }
-    ensures scope { IfOk result (λ begun. (t : Trace) → StandsFor t begun.0 0 (definition.InRendering attachments.now)) }
-    ensures steps { IfOk result (λ begun. (t : Trace) (s : definition.Scope) → begun.1 ≡ definition.lower t here s (command.BeginRendering attachments.now)) }
+    ensures scope { IfOk result (λ begun. (t : Trace)
+        → StandsFor t begun.0 0 (definition.InRendering attachments.now)) }
+    ensures steps { IfOk result (λ begun. (t : Trace) (s : definition.Scope) → begun.1
+        ≡ definition.lower t here s (command.BeginRendering attachments.now)) }
 {
     let loads = lower_rendering(alloc, attachments.as_slice(), false, &here)?;
     let kept = attachments.copy()?;
@@ -45,8 +47,10 @@ pub fn begin_pass(
     requires count { length views.now ≡ length (pass_in passes.now pass).attachments }
     requires fit { All ViewFits views.now }
     requires room { here.step + 2 < 2 ^ 64 }
-    ensures scope { IfOk result (λ begun. (t : Trace) → t.passes ≡ passes.now → StandsFor t begun.0 0 (definition.InPass pass views.now 0)) }
-    ensures steps { IfOk result (λ begun. (t : Trace) (s : definition.Scope) → t.passes ≡ passes.now → begun.1 ≡ definition.lower t here s (command.BeginPass pass views.now)) }
+    ensures scope { IfOk result (λ begun. (t : Trace) → t.passes ≡ passes.now
+        → StandsFor t begun.0 0 (definition.InPass pass views.now 0)) }
+    ensures steps { IfOk result (λ begun. (t : Trace) (s : definition.Scope) → t.passes ≡ passes.now
+        → begun.1 ≡ definition.lower t here s (command.BeginPass pass views.now)) }
 {
     let declaring = passes.find(pass);
     let begun = OpenPass::begin(alloc, declaring, pass, views)?;

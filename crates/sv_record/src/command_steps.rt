@@ -2,7 +2,7 @@
 ghost use Rattle.std.specs.Prelude.{ℕ, ◌≡◌, ◌+◌, ◌<◌, ◌^◌, ◌∷◌, IfOk, List, unwrap_or};
 ghost use Rattle.sv_model.specs.declared.line.Command.{Command};
 ghost use Rattle.sv_model.specs.declared.line.Trace.{Trace};
-ghost use Rattle.sv_model.specs.Compile as definition;
+ghost use Rattle.sv_model.specs.Recordings as definition;
 ghost use Rattle.sv_record.specs.Contexts.{CommandFits, OpenFits, StandsFor, subpass_after};
 
 use crate::begin_steps::{begin_pass, begin_rendering};
@@ -15,8 +15,8 @@ use sv_model::line::Command;
 use sv_model::work::{Here, Step};
 use sv_range::List;
 
-/// The steps of a command that stands there, in that scope and subpass, with the scope after it. None where that
-/// is the same, or its next subpass.
+/// The steps of a command that stands there, in that scope and subpass, with the scope after it. None where
+/// that is the same, or its next subpass.
 pub fn steps_of(
     alloc: Global,
     passes: &Passes,
@@ -29,8 +29,12 @@ pub fn steps_of(
     requires scope { OpenFits scope.now }
     requires subpass { subpass + 1 < 2 ^ 32 }
     requires room { here.step + 2 < 2 ^ 64 }
-    ensures steps { IfOk result (λ given. (t : Trace) (s : definition.Scope) → t.passes ≡ passes.now → StandsFor t scope.now subpass s → given.1 ≡ definition.lower t here s command.now) }
-    ensures scope { IfOk result (λ given. (t : Trace) (before : List Command) → t.passes ≡ passes.now → StandsFor t scope.now subpass (definition.scope_after before) → StandsFor t (unwrap_or given.0 scope.now) (subpass_after command.now subpass) (definition.scope_after (command.now ∷ before))) }
+    ensures steps { IfOk result (λ given. (t : Trace) (s : definition.Scope) → t.passes ≡ passes.now
+        → StandsFor t scope.now subpass s → given.1 ≡ definition.lower t here s command.now) }
+    ensures scope { IfOk result (λ given. (t : Trace) (before : List Command) → t.passes ≡ passes.now
+        → StandsFor t scope.now subpass (definition.scope_after before)
+        → StandsFor t (unwrap_or given.0 scope.now) (subpass_after command.now subpass)
+        (definition.scope_after (command.now ∷ before))) }
 {
     match command {
         Command::BeginRendering { attachments } => {

@@ -13,8 +13,8 @@ use sv_model::recorded::Recorded;
 use sv_model::work::{Here, Step};
 use sv_range::List;
 
-/// A recording whose commands are pushed one after another. It is lent the passes that the trace declares, and
-/// keeps of an open render pass what its commands need.
+/// A recording whose commands are pushed one after another. It is lent the passes that the trace declares,
+/// and keeps of an open render pass what its commands need.
 #[derive(Drop)]
 pub struct RecordContext {
     alloc: Global,
@@ -35,18 +35,20 @@ impl Model for RecordContext {
 
     ghost view = { λ it. record { trace = it.of.value; number = it.number; pushed = it.pushed } };
 
-    ghost invariant = { λ it. Stands it.of.value it.number it.family it.pushed it.begun it.scope it.subpass it.steps.items };
+    ghost invariant = { λ it. Stands it.of.value it.number it.family it.pushed it.begun it.scope it.subpass
+        it.steps.items };
 }
 
 impl RecordContext {
-    ghost use Rattle.std.specs.Prelude.{◌≡◌, ◌+◌, IfOk, IsTrue, OnErr, OnOk, Some, is_some, length, option_map};
+    ghost use Rattle.std.specs.Prelude.{◌≡◌, ◌+◌, IfOk, IsTrue, OnErr, OnOk, Some, is_some, length};
+    ghost use Rattle.std.specs.Prelude.{option_map};
     ghost use Rattle.sv_model.specs.Declarations.{recording_of};
     ghost use Rattle.sv_model.specs.Lawful.{IsLawful};
     ghost use Rattle.sv_index.specs.Indexes.{IsIndexOf};
     ghost use Rattle.sv_record.specs.Contexts.{IsNext, IsWhole};
 
-    /// The context of that recording of the trace, which has the recording, before its first command. The index is
-    /// that of the trace. Fails only for want of memory.
+    /// The context of that recording of the trace, which has the recording, before its first command. The
+    /// index is that of the trace. Fails only for want of memory.
     pub fn new(
         alloc: Global,
         trace: &Trace,
@@ -56,7 +58,8 @@ impl RecordContext {
         requires indexed { IsIndexOf trace.now recordings.now }
         requires lawful { IsLawful trace.now }
         requires declared { IsTrue (is_some (recording_of trace.now number)) }
-        ensures { IfOk result (λ context. context ≡ record { trace = trace.now; number = number; pushed = 0 }) }
+        ensures { IfOk result (λ context. context
+            ≡ record { trace = trace.now; number = number; pushed = 0 }) }
     {
         let family = family_of(trace, recordings, number);
         Ok(RecordContext {
@@ -72,8 +75,8 @@ impl RecordContext {
         })
     }
 
-    /// Pushes the recording's next command; the passes are those of its trace. Fails only for want of memory, and
-    /// is then as it was.
+    /// Pushes the recording's next command; the passes are those of its trace. Fails only for want of
+    /// memory, and is then as it was.
     pub fn push(&mut self, passes: &Passes, command: &Command) -> Result<(), AllocError>
         requires passes { passes.now ≡ self.old.trace.passes }
         requires next { IsNext self.old command.now }

@@ -6,7 +6,8 @@ use std::alloc::{AllocError, Global};
 use sv_index::RecordingIndex;
 use sv_model::line::Trace;
 
-/// The passes and the recordings of a trace, found by their numbers. Made once for a trace, and lent to all that record.
+/// The passes and the recordings of a trace, found by their numbers. Made once for a trace, and lent to all
+/// that record.
 #[derive(Drop)]
 pub struct Index {
     pub passes: Passes,

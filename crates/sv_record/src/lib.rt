@@ -1,4 +1,8 @@
 //! Recordings, one command after another.
+//!
+//! - knows one recording, and the tables of a trace that it looks up
+//! - definitions: `Recordings` of `sv_model`; `Contexts`, `Indexed` say what is kept
+//! - used by `sv_device`
 #![tactic(auto)]
 
 mod begin_steps;

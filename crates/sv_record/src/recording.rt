@@ -23,8 +23,8 @@ fn commands_of<'a>(trace: &'a Trace, index: &RecordingIndex, number: u32) -> &'a
     }
 }
 
-/// The recording of that number, which the trace has, finished: each of its commands is lowered. The index is the
-/// trace's. Fails only for want of memory.
+/// The recording of that number, which the trace has, finished: each of its commands is lowered. The index
+/// is the trace's. Fails only for want of memory.
 pub fn record(
     alloc: Global,
     trace: &Trace,

@@ -13,7 +13,8 @@ use Rattle.sv_report.specs.Pieces.{kind_text, area_text, access_text}
 
 -- the event with this number publishes a recording
 unfoldable pub publish_line : ℕ → ℕ → ℕ → List ℕ
-publish_line event recorder rec = codes "event " ++ decimal event ++ codes " recorder " ++ decimal recorder ++ codes " publish rec " ++ decimal rec ++ codes "\n"
+publish_line event recorder rec = codes "event " ++ decimal event ++ codes " recorder " ++ decimal recorder
+    ++ codes " publish rec " ++ decimal rec ++ codes "\n"
 
 -- a call by its name and what it names; other lines are no calls
 abbrev pub call_text : Line → List ℕ
@@ -26,10 +27,12 @@ call_text other = []
 
 -- the event with this number is a lane's call
 unfoldable pub call_line : ℕ → ℕ → ℕ → Line → List ℕ
-call_line event lane index call = codes "event " ++ decimal event ++ codes " lane " ++ decimal lane ++ codes " call " ++ decimal index ++ codes " " ++ call_text call ++ codes "\n"
+call_line event lane index call = codes "event " ++ decimal event ++ codes " lane " ++ decimal lane
+    ++ codes " call " ++ decimal index ++ codes " " ++ call_text call ++ codes "\n"
 
 unfoldable pub report_line : Report → List ℕ
-report_line r = codes "  " ++ kind_text r.kind ++ codes " " ++ area_text r.area ++ codes " " ++ access_text r.later ++ codes " after " ++ access_text r.earlier ++ codes "\n"
+report_line r = codes "  " ++ kind_text r.kind ++ codes " " ++ area_text r.area ++ codes " "
+    ++ access_text r.later ++ codes " after " ++ access_text r.earlier ++ codes "\n"
 
 -- so many of what the word names
 unfoldable pub count_text : List ℕ → ℕ → List ℕ
@@ -37,7 +40,9 @@ count_text word count = codes " " ++ word ++ codes " " ++ decimal count
 
 -- how many events there are, and how many lines of reports, notes and held items, to the end of the line
 unfoldable pub counts_text : ℕ → ℕ → ℕ → ℕ → List ℕ
-counts_text events reports notes held = count_text (codes "events") events ++ count_text (codes "reports") reports ++ count_text (codes "notes") notes ++ count_text (codes "held") held ++ codes "\n"
+counts_text events reports notes held = count_text (codes "events") events
+    ++ count_text (codes "reports") reports ++ count_text (codes "notes") notes
+    ++ count_text (codes "held") held ++ codes "\n"
 
 unfoldable pub total_line : ℕ → ℕ → ℕ → ℕ → List ℕ
 total_line events reports notes held = codes "total" ++ counts_text events reports notes held

@@ -45,10 +45,12 @@ unfoldable pub found_text : Layout → Layout → List ℕ
 found_text declared found = codes " declared " ++ layout_text declared ++ codes " found " ++ layout_text found
 
 unfoldable pub layout_note_line : LayoutNote → List ℕ
-layout_note_line n = note_start (codes "layout") n.area ++ element_text n.what ++ codes " " ++ place_text n.place ++ found_text n.declared n.found ++ codes "\n"
+layout_note_line n = note_start (codes "layout") n.area ++ element_text n.what ++ codes " "
+    ++ place_text n.place ++ found_text n.declared n.found ++ codes "\n"
 
 unfoldable pub owner_note_line : OwnerNote → List ℕ
-owner_note_line n = note_start (codes "owner") n.area ++ action_text n.what ++ codes " " ++ place_text n.place ++ codes " found " ++ owner_text n.found ++ codes "\n"
+owner_note_line n = note_start (codes "owner") n.area ++ action_text n.what ++ codes " "
+    ++ place_text n.place ++ codes " found " ++ owner_text n.found ++ codes "\n"
 
 -- the queue that made the set in force; without one the event is unset
 unfoldable pub setter_text : Option ℕ → List ℕ
@@ -56,7 +58,8 @@ setter_text None = codes "unset"
 setter_text (Some queue) = codes "set on queue " ++ decimal queue
 
 unfoldable pub event_note_line : EventNote → List ℕ
-event_note_line n = codes "  note event " ++ decimal n.event ++ codes " " ++ place_text n.place ++ codes " " ++ setter_text n.other ++ codes "\n"
+event_note_line n = codes "  note event " ++ decimal n.event ++ codes " " ++ place_text n.place ++ codes " "
+    ++ setter_text n.other ++ codes "\n"
 
 -- the value of a signal, and the semaphore's value then
 unfoldable pub values_text : ℕ → ℕ → List ℕ
@@ -64,7 +67,8 @@ values_text value current = codes " value " ++ decimal value ++ codes " current 
 
 -- a semaphore, and the submit's event and the batch that signals it
 unfoldable pub signal_text : ℕ → ℕ → ℕ → List ℕ
-signal_text sem event batch = codes "  note timeline " ++ decimal sem ++ codes " " ++ decimal event ++ codes "." ++ decimal batch
+signal_text sem event batch = codes "  note timeline " ++ decimal sem ++ codes " " ++ decimal event
+    ++ codes "." ++ decimal batch
 
 unfoldable pub timeline_note_line : TimelineNote → List ℕ
 timeline_note_line n = signal_text n.sem n.event n.batch ++ values_text n.value n.current ++ codes "\n"
@@ -80,6 +84,9 @@ note_line (note.Timeline n) = timeline_note_line n
 note_line (note.Fence n) = fence_note_line n
 
 unfoldable pub held_line : Held → List ℕ
-held_line (held.Call lane index) = codes "held lane " ++ decimal lane ++ codes " call " ++ decimal index ++ codes "\n"
-held_line (held.Batch queue event batch) = codes "held queue " ++ decimal queue ++ codes " event " ++ decimal event ++ codes " batch " ++ decimal batch ++ codes "\n"
-held_line (held.Fence queue event) = codes "held queue " ++ decimal queue ++ codes " event " ++ decimal event ++ codes " fence\n"
+held_line (held.Call lane index) = codes "held lane " ++ decimal lane ++ codes " call " ++ decimal index
+    ++ codes "\n"
+held_line (held.Batch queue event batch) = codes "held queue " ++ decimal queue ++ codes " event "
+    ++ decimal event ++ codes " batch " ++ decimal batch ++ codes "\n"
+held_line (held.Fence queue event) = codes "held queue " ++ decimal queue ++ codes " event "
+    ++ decimal event ++ codes " fence\n"

@@ -19,8 +19,10 @@ kind_text Waw = codes "waw"
 
 -- the end of a range is not in it
 unfoldable pub area_text : Area → List ℕ
-area_text (area.Bytes res span) = codes "res " ++ decimal res ++ codes " bytes " ++ decimal span.start ++ codes ".." ++ decimal span.end
-area_text (area.Image res cells) = codes "res " ++ decimal res ++ codes " mip " ++ decimal cells.mip ++ codes " layers " ++ decimal cells.layer ++ codes ".." ++ decimal (cells.layer + cells.layers)
+area_text (area.Bytes res span) = codes "res " ++ decimal res ++ codes " bytes " ++ decimal span.start
+    ++ codes ".." ++ decimal span.end
+area_text (area.Image res cells) = codes "res " ++ decimal res ++ codes " mip " ++ decimal cells.mip
+    ++ codes " layers " ++ decimal cells.layer ++ codes ".." ++ decimal (cells.layer + cells.layers)
 
 -- a usage by the names of its access and its stage; a number that is no usage has none
 unfoldable pub usage_word : Usage → List ℕ
@@ -30,9 +32,11 @@ unfoldable pub what_text : What → List ℕ
 what_text (part.Use u) = usage_word u
 what_text part.Transition = codes "layout_transition"
 
--- the event of the submit, the batch in it, the place of the recording in the batch, the recording, the command
+-- the event of the submit, the batch in it, the place of the recording in the batch, the recording, the
+-- command
 unfoldable pub place_text : Place → List ℕ
-place_text p = decimal p.event ++ codes "." ++ decimal p.batch ++ codes "." ++ decimal p.slot ++ codes " rec " ++ decimal p.rec ++ codes " cmd " ++ decimal p.cmd
+place_text p = decimal p.event ++ codes "." ++ decimal p.batch ++ codes "." ++ decimal p.slot
+    ++ codes " rec " ++ decimal p.rec ++ codes " cmd " ++ decimal p.cmd
 
 unfoldable pub access_text : Access → List ℕ
 access_text a = what_text a.what ++ codes " " ++ place_text a.place

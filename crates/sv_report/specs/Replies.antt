@@ -20,10 +20,12 @@ reports_before (note.Fence n) = n.reports_before
 abbrev pub due : ℕ → List Note → List Note
 due number notes = take_while (λ n. nat_le (reports_before n) number) notes
 
--- the reports from the one with this number on, each after the notes that are due there; the last notes stand at the end
+-- the reports from the one with this number on, each after the notes that are due there; the last notes
+-- stand at the end
 unfoldable pub entries : ℕ → List Report → List Note → List ℕ
 entries number [] notes = flat_map note_line notes
-entries number (r ∷ rs) notes = flat_map note_line (due number notes) ++ report_line r ++ entries (number + 1) rs (drop (length (due number notes)) notes)
+entries number (r ∷ rs) notes = flat_map note_line (due number notes) ++ report_line r
+    ++ entries (number + 1) rs (drop (length (due number notes)) notes)
 
 abbrev pub reply_text : Reply → List ℕ
 reply_text reply = entries 0 reply.reports reply.notes

@@ -5,7 +5,8 @@ ghost use Rattle.sv_index.specs.Indexes.{IsIndexOf};
 ghost use Rattle.sv_model.specs.Declarations.{recording_of, call_of};
 ghost use Rattle.std.specs.List.{flat_map};
 ghost use Rattle.sv_report.specs.Notes.{held_line};
-ghost use Rattle.sv_report.specs.Text.{event_line, events_text, report_count as reports_of, note_count as notes_of, history_text};
+ghost use Rattle.sv_report.specs.Text.{event_line, events_text, report_count as reports_of};
+ghost use Rattle.sv_report.specs.Text.{note_count as notes_of, history_text};
 
 use crate::lines::{push_call, push_publish, push_total};
 use crate::notes::push_held;
@@ -36,8 +37,8 @@ fn call_in(trace: &Trace, lane: u32, index: u32) -> Option<&Line>
     }
 }
 
-/// Appends the line of the event with this number, or nothing where the mark names a recording or call that the
-/// trace does not have. The index is the trace's.
+/// Appends the line of the event with this number, or nothing where the mark names a recording or call that
+/// the trace does not have. The index is the trace's.
 #[tactic(auto, unfolding(crate::specs::Text::event_line))]
 pub fn push_event(
     text: &mut String,
@@ -47,7 +48,8 @@ pub fn push_event(
     mark: Mark,
 ) -> Result<(), AllocError>
     requires { IsIndexOf trace.now recordings.now }
-    ensures { OnOk result (string_bytes text.new ≡ string_bytes text.old ++ event_line trace.now number mark) }
+    ensures { OnOk result (string_bytes text.new ≡ string_bytes text.old
+        ++ event_line trace.now number mark) }
 {
     match mark {
         Mark::Publish(rec) => match recorder_of(trace, recordings, rec) {
@@ -71,7 +73,8 @@ pub fn push_events(
 ) -> Result<(), AllocError>
     requires indexed { IsIndexOf trace.now recordings.now }
     requires one_each { length replies.now ≡ length marks.now }
-    ensures { OnOk result (string_bytes text.new ≡ string_bytes text.old ++ events_text trace.now 0 marks.now replies.now) }
+    ensures { OnOk result (string_bytes text.new ≡ string_bytes text.old
+        ++ events_text trace.now 0 marks.now replies.now) }
 {
     for i in 0..marks.len() {
         push_event(text, trace, recordings, i as u64, marks[i])?;
@@ -112,8 +115,8 @@ pub fn note_count(replies: &[Reply]) -> u128
     count
 }
 
-/// Appends the text of a history: each event's line and its reply under it, the held items, and the total. The index
-/// is the trace's.
+/// Appends the text of a history: each event's line and its reply under it, the held items, and the total.
+/// The index is the trace's.
 #[tactic(auto, unfolding(crate::specs::Text::history_text))]
 pub fn push_history(
     text: &mut String,
@@ -125,7 +128,8 @@ pub fn push_history(
 ) -> Result<(), AllocError>
     requires indexed { IsIndexOf trace.now recordings.now }
     requires one_each { length replies.now ≡ length marks.now }
-    ensures { OnOk result (string_bytes text.new ≡ string_bytes text.old ++ history_text trace.now marks.now replies.now held.now) }
+    ensures { OnOk result (string_bytes text.new ≡ string_bytes text.old
+        ++ history_text trace.now marks.now replies.now held.now) }
 {
     push_events(text, trace, recordings, marks, replies)?;
     push_all_held(text, held)?;
@@ -138,8 +142,8 @@ pub fn push_history(
     )
 }
 
-/// The text of a history of the trace, as bytes: each event's line and its reply under it, the held items, and the
-/// total. There is one reply for each event.
+/// The text of a history of the trace, as bytes: each event's line and its reply under it, the held items,
+/// and the total. There is one reply for each event.
 pub fn text(
     alloc: Global,
     marks: &List<Mark>,

@@ -1,6 +1,7 @@
 // The lines of events and their replies, and the total.
 ghost use Rattle.std.specs.Prelude.{◌≡◌, ◌++◌, OnOk, string_bytes};
-ghost use Rattle.sv_report.specs.Lines.{publish_line, call_text, call_line, report_line, count_text, counts_text, total_line};
+ghost use Rattle.sv_report.specs.Lines.{publish_line, call_text, call_line, report_line, count_text};
+ghost use Rattle.sv_report.specs.Lines.{counts_text, total_line};
 
 use crate::pieces::{kind_word, push_access, push_area};
 use std::alloc::AllocError;
@@ -43,7 +44,8 @@ pub fn push_call(
     index: u32,
     call: &Line,
 ) -> Result<(), AllocError>
-    ensures { OnOk result (string_bytes text.new ≡ string_bytes text.old ++ call_line event lane index call.now) }
+    ensures { OnOk result (string_bytes text.new ≡ string_bytes text.old
+        ++ call_line event lane index call.now) }
 {
     write!(text, "event {event} lane {lane} call {index} ")?;
     push_call_name(text, call)?;
@@ -83,7 +85,8 @@ pub fn push_counts(
     notes: u128,
     held: u128,
 ) -> Result<(), AllocError>
-    ensures { OnOk result (string_bytes text.new ≡ string_bytes text.old ++ counts_text events reports notes held) }
+    ensures { OnOk result (string_bytes text.new ≡ string_bytes text.old
+        ++ counts_text events reports notes held) }
 {
     push_count(text, "events", events)?;
     push_count(text, "reports", reports)?;
@@ -101,7 +104,8 @@ pub fn push_total(
     notes: u128,
     held: u128,
 ) -> Result<(), AllocError>
-    ensures { OnOk result (string_bytes text.new ≡ string_bytes text.old ++ total_line events reports notes held) }
+    ensures { OnOk result (string_bytes text.new ≡ string_bytes text.old
+        ++ total_line events reports notes held) }
 {
     text.push_str("total")?;
     push_counts(text, events, reports, notes, held)

@@ -1,6 +1,9 @@
 // The lines of notes and of held items.
 ghost use Rattle.std.specs.Prelude.{◌≡◌, ◌++◌, OnOk, string_bytes};
-ghost use Rattle.sv_report.specs.Notes.{element_text, action_text, owner_text, setter_text, note_start, found_text, values_text, signal_text, layout_note_line, owner_note_line, event_note_line, timeline_note_line, fence_note_line, note_line, held_line};
+ghost use Rattle.sv_report.specs.Notes.{element_text, action_text, owner_text, setter_text, note_start};
+ghost use Rattle.sv_report.specs.Notes.{found_text, values_text, signal_text, layout_note_line};
+ghost use Rattle.sv_report.specs.Notes.{owner_note_line, event_note_line, timeline_note_line};
+ghost use Rattle.sv_report.specs.Notes.{fence_note_line, note_line, held_line};
 
 use crate::pieces::{push_area, push_place, push_usage, push_what};
 use std::alloc::AllocError;

@@ -21,10 +21,12 @@ fn number_before(note: &Note) -> u64
     }
 }
 
-// Appends the lines of the notes that are due before the report with this number, and answers how many they are.
+// Appends the lines of the notes that are due before the report with this number, and answers how many they
+// are.
 fn push_due(text: &mut String, number: u64, notes: &[Note]) -> Result<usize, AllocError>
     ensures count { IfOk result (λ n. n ≡ length (due number notes.now)) }
-    ensures lines { OnOk result (string_bytes text.new ≡ string_bytes text.old ++ flat_map note_line (due number notes.now)) }
+    ensures lines { OnOk result (string_bytes text.new ≡ string_bytes text.old
+        ++ flat_map note_line (due number notes.now)) }
 {
     let mut count = 0;
     while count < notes.len() {

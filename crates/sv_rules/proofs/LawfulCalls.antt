@@ -1,5 +1,6 @@
 -- Declaring lines and calls that are not refused are lawful.
-use Rattle.std.proofs.Common.{◌≡◌, ℕ, ◌<◌, List, Bool, true, false, not, ◌||◌, ◌&&◌, eqb, Option, None, Some, refl, sym, ◌∙◌, ap, subst, length, IsTrue, eq-eqb, arith}
+use Rattle.std.proofs.Common.{◌≡◌, ℕ, ◌<◌, List, Bool, true, false, not, ◌||◌, ◌&&◌, eqb, Option, None}
+use Rattle.std.proofs.Common.{Some, refl, sym, ◌∙◌, ap, subst, length, IsTrue, eq-eqb, arith}
 use Rattle.std.specs.Prelude.{is_none, is_some, slice_index_or, option_map}
 use Rattle.std.specs.List.{list_any}
 use Rattle.std.proofs.lemmas.Bool.{or_parts}
@@ -17,15 +18,22 @@ use Rattle.sv_model.specs.declared.line.Recording.{Recording}
 use Rattle.sv_model.specs.declared.line.Trace.{Trace}
 use Rattle.sv_model.specs.Declarations.{QueueLine, queue_of, kind_of, is_fence, recording_of}
 use Rattle.sv_model.specs.LawfulParts.{HasItsValue, IsLawfulUse}
-use Rattle.sv_model.specs.Lawful.{HasItsInitial, IsOneUse, IsLawfulSubpass, IsLawfulPassDep, IsLawfulPass, HasFamily, IsLawfulBatch, IsFenceOrNone, IsQueueOf, BatchesAreLawful, IsLawfulSubmit}
+use Rattle.sv_model.specs.Lawful.{HasItsInitial, IsOneUse, IsLawfulSubpass, IsLawfulPassDep, IsLawfulPass}
+use Rattle.sv_model.specs.Lawful.{HasFamily, IsLawfulBatch, IsFenceOrNone, IsQueueOf, BatchesAreLawful}
+use Rattle.sv_model.specs.Lawful.{IsLawfulSubmit}
 use Rattle.sv_trace.specs.Formed.{IsFormedSubpass, IsFormedPassDep, IsFormedPass}
-use Rattle.sv_rules.specs.Named.{is_new_queue, is_new_semaphore, is_new_fence, is_new_signal, is_new_recording, is_of_new_semaphore, batch_names_new_semaphore, batch_names_new_recording}
+use Rattle.sv_rules.specs.Named.{is_new_queue, is_new_semaphore, is_new_fence, is_new_signal}
+use Rattle.sv_rules.specs.Named.{is_new_recording, is_of_new_semaphore, batch_names_new_semaphore}
+use Rattle.sv_rules.specs.Named.{batch_names_new_recording}
 use Rattle.sv_rules.specs.Masks.{dep_unsupported, is_without_stage}
 use Rattle.sv_rules.specs.Places as place
-use Rattle.sv_rules.specs.Calls.{is_another, is_of_another_lane, has_wrong_value, is_wrong_use, batch_has_wrong_use, has_wrong_initial, is_of_wrong_kind}
+use Rattle.sv_rules.specs.Calls.{is_another, is_of_another_lane, has_wrong_value, is_wrong_use}
+use Rattle.sv_rules.specs.Calls.{batch_has_wrong_use, has_wrong_initial, is_of_wrong_kind}
 use Rattle.sv_rules.specs.Limits as limits
-use Rattle.sv_rules.specs.Taken.{Taken, family_and_lane, family_of_queue, lane_of_queue, kind_in, family_of_recording, has_ended}
-use Rattle.sv_rules.proofs.Passing.{Passes, are_declared, is_placed, is_limited, none_at, few, not_false, same_number}
+use Rattle.sv_rules.specs.Taken.{Taken, family_and_lane, family_of_queue, lane_of_queue, kind_in}
+use Rattle.sv_rules.specs.Taken.{family_of_recording, has_ended}
+use Rattle.sv_rules.proofs.Passing.{Passes, are_declared, is_placed, is_limited, none_at, few, not_false}
+use Rattle.sv_rules.proofs.Passing.{same_number}
 
 none_of : {A : Type 0} (o : Option A) → is_some o ≡ false → o ≡ None
 none_of None e = refl
@@ -37,7 +45,8 @@ some_of (Some x) e = refl
 
 -- Semaphores and render passes.
 
-pub initial_of : (kind : SemKind) (initial : Option ℕ) → has_wrong_initial kind initial ≡ false → HasItsInitial kind initial
+pub initial_of : (kind : SemKind) (initial : Option ℕ) → has_wrong_initial kind initial ≡ false
+    → HasItsInitial kind initial
 initial_of Binary initial e = none_of initial e
 initial_of Timeline initial e = tt
 
@@ -45,14 +54,18 @@ if_same : (a b : Bool) → (a && not b) ≡ false → a ≡ true → b ≡ true
 if_same a b e h = not_false b (sym (ap (λ x. x && not b) h) ∙ e)
 
 one_use : (u v : PassUse) → place.differ_in_layout u v ≡ false → IsOneUse u v
-one_use u v e same = same_number (layout_number u.layout) (layout_number v.layout) (if_same (eqb u.att v.att) (same_layout u.layout v.layout) e (eq-eqb u.att v.att same))
+one_use u v e same = same_number (layout_number u.layout) (layout_number v.layout)
+    (if_same (eqb u.att v.att) (same_layout u.layout v.layout) e (eq-eqb u.att v.att same))
 
-subpass_lawful : (n : ℕ) (uses : List PassUse) → limits.are_many_uses uses ≡ false → place.has_two_layouts uses ≡ false → IsFormedSubpass n uses → IsLawfulSubpass n uses
+subpass_lawful : (n : ℕ) (uses : List PassUse) → limits.are_many_uses uses ≡ false
+    → place.has_two_layouts uses ≡ false → IsFormedSubpass n uses → IsLawfulSubpass n uses
 subpass_lawful n uses many two formed = record {
   short = few 64 (length uses) many;
   bounds = formed;
   layouts = λ i j d lt within. one_use (slice_index_or uses i d) (slice_index_or uses j d)
-      (none_at (place.differ_in_layout (slice_index_or uses i d)) uses (none_at (place.differs_from_some uses) uses two i d (before i j (length uses) lt within)) j d within);
+      (none_at (place.differ_in_layout (slice_index_or uses i d)) uses
+      (none_at (place.differs_from_some uses) uses two i d (before i j (length uses) lt within)) j d
+      within);
 }
   where
     before : (i j n : ℕ) → i < j → j < n → i < n
@@ -69,8 +82,10 @@ dep_lawful n d u formed =
       dst = not_false (supported d.dst d.dst_access) masks.1;
     }
 
-pub pass_lawful : (s : Taken) (pass : ℕ) (attachments : List PassAttachment) (subpasses : List (List PassUse)) (deps : List PassDep)
-    → Passes s (line.RenderPass pass attachments subpasses deps) → IsFormedPass pass attachments subpasses deps → IsLawfulPass pass attachments subpasses deps
+pub pass_lawful : (s : Taken) (pass : ℕ) (attachments : List PassAttachment)
+    (subpasses : List (List PassUse)) (deps : List PassDep)
+    → Passes s (line.RenderPass pass attachments subpasses deps)
+    → IsFormedPass pass attachments subpasses deps → IsLawfulPass pass attachments subpasses deps
 unfolding is_without_stage
 pass_lawful s pass attachments subpasses deps p formed =
     let limited = is_limited s (line.RenderPass pass attachments subpasses deps) p.limit in
@@ -82,14 +97,18 @@ pass_lawful s pass attachments subpasses deps p formed =
       subpasses_some = formed.some;
       subpasses_few = few 32 (length subpasses) limited.subpasses;
       uses = λ k d lt. subpass_lawful (length attachments) (slice_index_or subpasses k d)
-          (none_at limits.are_many_uses subpasses limited.uses k d lt) (none_at place.has_two_layouts subpasses placed.uses k d lt) (formed.uses k d lt);
+          (none_at limits.are_many_uses subpasses limited.uses k d lt)
+          (none_at place.has_two_layouts subpasses placed.uses k d lt) (formed.uses k d lt);
       deps_short = few 64 (length deps) limited.deps;
-      each = λ k d lt. dep_lawful (length subpasses) (slice_index_or deps k d) (none_at dep_unsupported deps p.stage k d lt) (formed.each k d lt);
+      each = λ k d lt. dep_lawful (length subpasses) (slice_index_or deps k d)
+          (none_at dep_unsupported deps p.stage k d lt) (formed.each k d lt);
     }
 
 -- Calls.
 
-queue_own : (lane : ℕ) (o : Option QueueLine) → is_none (option_map family_and_lane o) ≡ false → is_another lane (option_map (λ (q : ℕ × ℕ). q.1) (option_map family_and_lane o)) ≡ false → IsQueueOf lane o
+queue_own : (lane : ℕ) (o : Option QueueLine) → is_none (option_map family_and_lane o) ≡ false
+    → is_another lane (option_map (λ (q : ℕ × ℕ). q.1) (option_map family_and_lane o)) ≡ false
+    → IsQueueOf lane o
 queue_own lane None n e = absurd (let h : true ≡ false = n in cc)
 queue_own lane (Some q) n e = same_number q.lane lane (not_false (eqb q.lane lane) e)
 
@@ -101,44 +120,63 @@ signal_of : (t : Trace) (fence : Option ℕ) → is_new_signal t fence ≡ false
 signal_of t None e = tt
 signal_of t (Some fence) e = fence_of t fence e
 
-value_of : (o : Option SemKind) (value : Option ℕ) → is_none o ≡ false → has_wrong_value o value ≡ false → HasItsValue o value
+value_of : (o : Option SemKind) (value : Option ℕ) → is_none o ≡ false → has_wrong_value o value ≡ false
+    → HasItsValue o value
 value_of None value n e = absurd (let h : true ≡ false = n in cc)
 value_of (Some Timeline) value n e = some_of value e
 value_of (Some Binary) value n e = none_of value e
 
-use_lawful : (t : Trace) (u : SemaphoreUse) → is_of_new_semaphore t u ≡ false → is_wrong_use t u ≡ false → IsLawfulUse t u
+use_lawful : (t : Trace) (u : SemaphoreUse) → is_of_new_semaphore t u ≡ false → is_wrong_use t u ≡ false
+    → IsLawfulUse t u
 unfolding is_new_semaphore kind_in
 use_lawful t u n e = value_of (kind_of t u.sem) u.value n e
 
-family_same : (family : ℕ) (ended : Bool) (o : Option Recording) → is_none o ≡ false → (not ended || not (place.are_same (option_map (λ (r : Recording). r.family) o) (Some family))) ≡ false → HasFamily family o
+family_same : (family : ℕ) (ended : Bool) (o : Option Recording) → is_none o ≡ false
+    → (not ended || not (place.are_same (option_map (λ (r : Recording). r.family) o) (Some family))) ≡ false
+    → HasFamily family o
 family_same family ended None n e = absurd (let h : true ≡ false = n in cc)
-family_same family ended (Some r) n e = same_number r.family family (not_false (eqb r.family family) (or_parts (not ended) (not (eqb r.family family)) e).1)
+family_same family ended (Some r) n e = same_number r.family family
+    (not_false (eqb r.family family) (or_parts (not ended) (not (eqb r.family family)) e).1)
 
-family_of_one : (t : Trace) (queue : ℕ) (q : QueueLine) → queue_of t queue ≡ Some q → family_of_queue t queue ≡ Some q.family
+family_of_one : (t : Trace) (queue : ℕ) (q : QueueLine) → queue_of t queue ≡ Some q
+    → family_of_queue t queue ≡ Some q.family
 unfolding family_of_queue
-family_of_one t queue q e = ap (λ (o : Option QueueLine). option_map (λ (x : ℕ × ℕ). x.0) (option_map family_and_lane o)) e
+family_of_one t queue q e = ap (λ (o : Option QueueLine). option_map (λ (x : ℕ × ℕ). x.0)
+    (option_map family_and_lane o)) e
 
-runs : (t : Trace) (queue : ℕ) (q : QueueLine) (k : ℕ) → queue_of t queue ≡ Some q → is_new_recording t k ≡ false → place.may_not_run t queue k ≡ false → HasFamily q.family (recording_of t k)
+runs : (t : Trace) (queue : ℕ) (q : QueueLine) (k : ℕ) → queue_of t queue ≡ Some q → is_new_recording t k
+    ≡ false → place.may_not_run t queue k ≡ false → HasFamily q.family (recording_of t k)
 unfolding is_new_recording family_of_recording
 runs t queue q k e n w = family_same q.family (has_ended t k) (recording_of t k) n
-    (subst (λ (f : Option ℕ). (not (has_ended t k) || not (place.are_same (family_of_recording t k) f)) ≡ false) (family_of_one t queue q e) w)
+    (subst (λ (f : Option ℕ). (not (has_ended t k) || not (place.are_same (family_of_recording t k) f))
+    ≡ false) (family_of_one t queue q e) w)
 
 batch_lawful : (t : Trace) (queue : ℕ) (q : QueueLine) (b : Batch) → queue_of t queue ≡ Some q
-    → batch_names_new_semaphore t b ≡ false → batch_names_new_recording t b ≡ false → place.batch_may_not_run t queue b ≡ false → batch_has_wrong_use t b ≡ false
-    → limits.is_of_many_recs b ≡ false → limits.is_of_many_waits b ≡ false → limits.is_of_many_signals b ≡ false → IsLawfulBatch t q.family b
+    → batch_names_new_semaphore t b ≡ false → batch_names_new_recording t b ≡ false
+    → place.batch_may_not_run t queue b ≡ false → batch_has_wrong_use t b ≡ false
+    → limits.is_of_many_recs b ≡ false → limits.is_of_many_waits b ≡ false → limits.is_of_many_signals b
+    ≡ false → IsLawfulBatch t q.family b
 batch_lawful t queue q b e sems recs run uses many_recs many_waits many_signals =
-    let named = or_parts (list_any (is_of_new_semaphore t) b.waits) (list_any (is_of_new_semaphore t) b.signals) sems in
+    let named = or_parts (list_any (is_of_new_semaphore t) b.waits)
+    (list_any (is_of_new_semaphore t) b.signals) sems in
     let kinds = or_parts (list_any (is_wrong_use t) b.waits) (list_any (is_wrong_use t) b.signals) uses in
     record {
       waits_short = few 64 (length b.waits) many_waits;
-      waits = λ k d lt. use_lawful t (slice_index_or b.waits k d) (none_at (is_of_new_semaphore t) b.waits named.0 k d lt) (none_at (is_wrong_use t) b.waits kinds.0 k d lt);
+      waits = λ k d lt. use_lawful t (slice_index_or b.waits k d)
+          (none_at (is_of_new_semaphore t) b.waits named.0 k d lt)
+          (none_at (is_wrong_use t) b.waits kinds.0 k d lt);
       recs_few = few 1024 (length b.recs) many_recs;
-      recs = λ k d lt. runs t queue q (slice_index_or b.recs k d) e (none_at (is_new_recording t) b.recs recs k d lt) (none_at (place.may_not_run t queue) b.recs run k d lt);
+      recs = λ k d lt. runs t queue q (slice_index_or b.recs k d) e
+          (none_at (is_new_recording t) b.recs recs k d lt)
+          (none_at (place.may_not_run t queue) b.recs run k d lt);
       signals_short = few 64 (length b.signals) many_signals;
-      signals = λ k d lt. use_lawful t (slice_index_or b.signals k d) (none_at (is_of_new_semaphore t) b.signals named.1 k d lt) (none_at (is_wrong_use t) b.signals kinds.1 k d lt);
+      signals = λ k d lt. use_lawful t (slice_index_or b.signals k d)
+          (none_at (is_of_new_semaphore t) b.signals named.1 k d lt)
+          (none_at (is_wrong_use t) b.signals kinds.1 k d lt);
     }
 
-batches_lawful : (s : Taken) (lane queue : ℕ) (batches : List Batch) (fence : Option ℕ) → Passes s (line.Submit lane queue batches fence) → (o : Option QueueLine) → queue_of s.trace queue ≡ o
+batches_lawful : (s : Taken) (lane queue : ℕ) (batches : List Batch) (fence : Option ℕ)
+    → Passes s (line.Submit lane queue batches fence) → (o : Option QueueLine) → queue_of s.trace queue ≡ o
     → IsQueueOf lane o → BatchesAreLawful s.trace o batches
 unfolding is_of_wrong_kind
 batches_lawful s lane queue batches fence p None e own = own
@@ -155,7 +193,8 @@ batches_lawful s lane queue batches fence p (Some q) e own =
     (none_at limits.is_of_many_waits batches limited.waits k d lt)
     (none_at limits.is_of_many_signals batches limited.signals k d lt)
 
-pub submit_lawful : (s : Taken) (lane queue : ℕ) (batches : List Batch) (fence : Option ℕ) → Passes s (line.Submit lane queue batches fence) → IsLawfulSubmit s.trace lane queue batches fence
+pub submit_lawful : (s : Taken) (lane queue : ℕ) (batches : List Batch) (fence : Option ℕ)
+    → Passes s (line.Submit lane queue batches fence) → IsLawfulSubmit s.trace lane queue batches fence
 unfolding is_new_queue is_of_another_lane lane_of_queue
 submit_lawful s lane queue batches fence p =
     let declared = are_declared s.trace (line.Submit lane queue batches fence) p.declared in
@@ -167,6 +206,8 @@ submit_lawful s lane queue batches fence p =
       signals = signal_of s.trace fence declared.fence;
     }
 
-pub wait_queue_lawful : (s : Taken) (lane queue : ℕ) → Passes s (line.WaitQueue lane queue) → IsQueueOf lane (queue_of s.trace queue)
+pub wait_queue_lawful : (s : Taken) (lane queue : ℕ) → Passes s (line.WaitQueue lane queue)
+    → IsQueueOf lane (queue_of s.trace queue)
 unfolding is_new_queue is_of_another_lane lane_of_queue
-wait_queue_lawful s lane queue p = queue_own lane (queue_of s.trace queue) (are_declared s.trace (line.WaitQueue lane queue) p.declared).queue p.lane
+wait_queue_lawful s lane queue p = queue_own lane (queue_of s.trace queue)
+    (are_declared s.trace (line.WaitQueue lane queue) p.declared).queue p.lane

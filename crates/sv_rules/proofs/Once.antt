@@ -1,5 +1,7 @@
 -- A line that declares something new declares it once.
-use Rattle.std.proofs.Common.{◌≡◌, ℕ, List, [], ◌∷◌, ◌++◌, true, false, not, eqb, cond, Option, None, Some, refl, sym, ◌∙◌, ap, subst, All, AllPairs, filter_map, slice_get, eq-eqb, is_none, is_some, option_map}
+use Rattle.std.proofs.Common.{◌≡◌, ℕ, List, [], ◌∷◌, ◌++◌, true, false, not, eqb, cond, Option, None, Some}
+use Rattle.std.proofs.Common.{refl, sym, ◌∙◌, ap, subst, All, AllPairs, filter_map, slice_get, eq-eqb}
+use Rattle.std.proofs.Common.{is_none, is_some, option_map}
 use Rattle.std.specs.List.{cons_option}
 use Rattle.std.proofs.lemmas.List.Elements.{All-nil, All-cons, All-head, All-tail, filter_map-append}
 use Rattle.std.proofs.lemmas.List.Quantifiers.{all_pairs_push}
@@ -7,15 +9,19 @@ use Rattle.std.proofs.lemmas.Option.{none-some}
 use Rattle.sv_model.specs.declared.line.Line.{Line}
 use Rattle.sv_model.specs.declared.line.Line.TheVariants as line
 use Rattle.sv_model.specs.declared.line.Trace.{Trace}
-use Rattle.sv_model.specs.Declarations.{said, says_queue, says_resource, says_kind, says_event, says_signaled, says_pass, queue_of, resource_of, kind_of}
-use Rattle.sv_model.specs.Lawful.{declared_number, Differ, AreOnce, IsLawfulQueue, IsLawfulResource, IsLawfulSemaphore, IsLawfulEventLine, IsLawfulFence, IsLawfulPassLine}
-use Rattle.sv_rules.specs.Named.{is_new_queue, is_new_resource, is_new_semaphore, is_new_event, is_new_fence, is_new_pass}
+use Rattle.sv_model.specs.Declarations.{said, says_queue, says_resource, says_kind, says_event}
+use Rattle.sv_model.specs.Declarations.{says_signaled, says_pass, queue_of, resource_of, kind_of}
+use Rattle.sv_model.specs.Lawful.{declared_number, Differ, AreOnce, IsLawfulQueue, IsLawfulResource}
+use Rattle.sv_model.specs.Lawful.{IsLawfulSemaphore, IsLawfulEventLine, IsLawfulFence, IsLawfulPassLine}
+use Rattle.sv_rules.specs.Named.{is_new_queue, is_new_resource, is_new_semaphore, is_new_event}
+use Rattle.sv_rules.specs.Named.{is_new_fence, is_new_pass}
 use Rattle.sv_rules.specs.Taken.{family_and_lane}
 use Rattle.sv_rules.proofs.Lists.{Holds, given_all}
 
 -- Numbers of which nothing is said.
 
-none_said : {X : Type 0} (o : Option X) (xs : List X) → slice_get (cons_option o xs) 0 ≡ None → (o ≡ None) × (slice_get xs 0 ≡ None)
+none_said : {X : Type 0} (o : Option X) (xs : List X) → slice_get (cons_option o xs) 0 ≡ None → (o ≡ None)
+    × (slice_get xs 0 ≡ None)
 none_said None xs e = (refl, e)
 none_said (Some x) xs e = absurd (none-some x (sym e))
 
@@ -23,19 +29,25 @@ none_said (Some x) xs e = absurd (none-some x (sym e))
 abbrev pub Tells : {X : Type 0} → (Line → Type 0) → (Line → Option X) → ℕ → Type 0
 Tells IsOfKind says n = (l : Line) → IsOfKind l → says l ≡ None → Holds (λ m. Differ m n) (declared_number l)
 
-untold : {X : Type 0} (IsOfKind : Line → Type 0) (says : Line → Option X) (n : ℕ) → Tells IsOfKind says n → (xs : List Line) → All IsOfKind xs → said says xs ≡ None
+untold : {X : Type 0} (IsOfKind : Line → Type 0) (says : Line → Option X) (n : ℕ) → Tells IsOfKind says n
+    → (xs : List Line) → All IsOfKind xs → said says xs ≡ None
     → All (λ l. Holds (λ m. Differ m n) (declared_number l)) xs
 untold IsOfKind says n tells [] all none = All-nil (λ l. Holds (λ m. Differ m n) (declared_number l))
 untold IsOfKind says n tells (x ∷ xs) all none =
     let parts = none_said (says x) (filter_map says xs) none in
-    All-cons (λ l. Holds (λ m. Differ m n) (declared_number l)) x xs (tells x (All-head IsOfKind x xs all) parts.0) (untold IsOfKind says n tells xs (All-tail IsOfKind x xs all) parts.1)
+    All-cons (λ l. Holds (λ m. Differ m n) (declared_number l)) x xs
+    (tells x (All-head IsOfKind x xs all) parts.0)
+    (untold IsOfKind says n tells xs (All-tail IsOfKind x xs all) parts.1)
 
-pub once_more : {X : Type 0} (IsOfKind : Line → Type 0) (says : Line → Option X) (n : ℕ) (l : Line) → Tells IsOfKind says n → declared_number l ≡ Some n
+pub once_more : {X : Type 0} (IsOfKind : Line → Type 0) (says : Line → Option X) (n : ℕ) (l : Line)
+    → Tells IsOfKind says n → declared_number l ≡ Some n
     → (xs : List Line) → All IsOfKind xs → said says xs ≡ None → AreOnce xs → AreOnce (xs ++ l ∷ [])
 once_more IsOfKind says n l tells declares xs all none once =
-    subst (AllPairs Differ) (sym (filter_map-append declared_number xs (l ∷ []) ∙ ap (λ o. filter_map declared_number xs ++ cons_option o []) declares))
+    subst (AllPairs Differ) (sym (filter_map-append declared_number xs (l ∷ [])
+    ∙ ap (λ o. filter_map declared_number xs ++ cons_option o []) declares))
     (all_pairs_push Differ (filter_map declared_number xs) n once
-    (λ k d lt. given_all declared_number (λ m. Differ m n) xs (untold IsOfKind says n tells xs all none) k d lt))
+    (λ k d lt. given_all declared_number (λ m. Differ m n) xs
+    (untold IsOfKind says n tells xs all none) k d lt))
 
 -- Kind by kind.
 
@@ -43,7 +55,8 @@ apart : {X : Type 0} (m n : ℕ) (x : X) → cond (eqb m n) (Some x) None ≡ No
 apart m n x none same = none-some x (sym none ∙ ap (λ b. cond b (Some x) None) (eq-eqb m n same))
 
 pub queue_tells : (n : ℕ) → Tells IsLawfulQueue (says_queue n) n
-queue_tells n (line.Queue queue family lane) h none = apart queue n (record { family = family; lane = lane }) none
+queue_tells n (line.Queue queue family lane) h none =
+    apart queue n (record { family = family; lane = lane }) none
 queue_tells n other h none = absurd h
 
 pub resource_tells : (n : ℕ) → Tells IsLawfulResource (says_resource n) n

@@ -1,5 +1,6 @@
 -- What holds of a line that is not refused: each sentence is false of it.
-use Rattle.std.proofs.Common.{◌≡◌, ℕ, ◌+◌, ◌<◌, ◌≤◌, zero, suc, List, [], ◌∷◌, Bool, true, false, not, eqb, Option, None, Some, refl, sym, ◌∙◌, arith, length, IsTrue, inl, inr}
+use Rattle.std.proofs.Common.{◌≡◌, ℕ, ◌+◌, ◌<◌, ◌≤◌, zero, suc, List, [], ◌∷◌, Bool, true, false, not, eqb}
+use Rattle.std.proofs.Common.{Option, None, Some, refl, sym, ◌∙◌, arith, length, IsTrue, inl, inr}
 use Rattle.std.specs.Prelude.{if◌then◌else◌, nat_lt, slice_index_or}
 use Rattle.std.specs.List.{list_any}
 use Rattle.std.proofs.lemmas.Bool.{or_parts}
@@ -9,7 +10,9 @@ use Rattle.sv_model.specs.declared.line.Trace.{Trace}
 use Rattle.sv_model.specs.declared.refusal.Cause.{Cause}
 use Rattle.sv_rules.specs.First.{or_else}
 use Rattle.sv_rules.specs.Taken.{Taken}
-use Rattle.sv_rules.specs.Named.{is_undeclared, names_new_queue, names_new_resource, names_new_semaphore, names_new_event, names_new_fence, names_new_pass, goes_on_in_new_recording, submits_new_recording, is_declared_twice}
+use Rattle.sv_rules.specs.Named.{is_undeclared, names_new_queue, names_new_resource, names_new_semaphore}
+use Rattle.sv_rules.specs.Named.{names_new_event, names_new_fence, names_new_pass, goes_on_in_new_recording}
+use Rattle.sv_rules.specs.Named.{submits_new_recording, is_declared_twice}
 use Rattle.sv_rules.specs.PartRules.{is_out_of_resource, is_empty}
 use Rattle.sv_rules.specs.Masks.{is_without_stage}
 use Rattle.sv_rules.specs.Places as place
@@ -20,7 +23,8 @@ use Rattle.sv_rules.specs.Causes.{broken_rule, rule_cause}
 
 -- Tests.
 
-pub none_at : {X : Type 0} (p : X → Bool) (xs : List X) → list_any p xs ≡ false → (k : ℕ) (d : X) → k < length xs → p (slice_index_or xs k d) ≡ false
+pub none_at : {X : Type 0} (p : X → Bool) (xs : List X) → list_any p xs ≡ false → (k : ℕ) (d : X) → k
+    < length xs → p (slice_index_or xs k d) ≡ false
 none_at p [] e k d lt = absurd (omega (arith, lt))
 none_at p (x ∷ xs) e zero d lt = (or_parts (p x) (list_any p xs) e).0
 none_at p (x ∷ xs) e (suc k) d lt = none_at p xs (or_parts (p x) (list_any p xs) e).1 k d (omega (arith, lt))
@@ -36,9 +40,14 @@ pub true_of : (b : Bool) → b ≡ true → IsTrue b
 true_of b e = e
 
 pub same_number : (m n : ℕ) → eqb m n ≡ true → m ≡ n
-same_number m n e = elim (eqb_tells m n) [ inl same ↦ same.1 | inr other ↦ absurd (let h : false ≡ true = sym other.0 ∙ e in cc) ]
+same_number m n e = elim (eqb_tells m n) [
+  | inl same ↦ same.1
+  | inr other
+      ↦ absurd (let h : false ≡ true = sym other.0 ∙ e in cc)
+]
 
-pub first_none : (b : Bool) (c : Cause) (rest : Option Cause) → (if b then Some c else rest) ≡ None → (b ≡ false) × (rest ≡ None)
+pub first_none : (b : Bool) (c : Cause) (rest : Option Cause) → (if b then Some c else rest) ≡ None
+    → (b ≡ false) × (rest ≡ None)
 first_none true c rest e = absurd (let h : Some c ≡ None = e in cc)
 first_none false c rest e = (refl, e)
 
@@ -73,7 +82,18 @@ passes s line e =
     let h = first_none (is_without_self_dependency s.trace line) _ _ g.1 in
     let i = first_none (is_of_another_lane s.trace line) _ _ h.1 in
     let j = first_none (is_of_wrong_kind s.trace line) _ _ i.1 in
-    record { declared = a.0; once = b.0; inside = c.0; some = d.0; stage = f.0; place = g.0; own = h.0; lane = i.0; kind = j.0; limit = both.1 }
+    record {
+      declared = a.0;
+      once = b.0;
+      inside = c.0;
+      some = d.0;
+      stage = f.0;
+      place = g.0;
+      own = h.0;
+      lane = i.0;
+      kind = j.0;
+      limit = both.1;
+    }
 
 pub record AreDeclared (t : Trace) (line : Line) : Type 0 where
   pub queue : names_new_queue t line ≡ false
@@ -95,7 +115,16 @@ are_declared t line e =
     let v = or_parts _ _ f.0 in
     let s = or_parts _ _ v.0 in
     let r = or_parts _ _ s.0 in
-    record { queue = r.0; resource = r.1; semaphore = s.1; event = v.1; fence = f.1; pass = p.1; recording = g.1; submitted = h.1 }
+    record {
+      queue = r.0;
+      resource = r.1;
+      semaphore = s.1;
+      event = v.1;
+      fence = f.1;
+      pass = p.1;
+      recording = g.1;
+      submitted = h.1;
+    }
 
 pub record IsPlaced (s : Taken) (line : Line) : Type 0 where
   pub ended : place.comes_after_end s.trace line ≡ false
@@ -122,7 +151,18 @@ is_placed s line e =
     let d = or_parts _ _ f.0 in
     let c = or_parts _ _ d.0 in
     let b = or_parts _ _ c.0 in
-    record { uses = l.1; views = k.1; usage = j.1; subpass = i.1; forbidden = h.1; scope = g.1; transfers = f.1; submits = d.1; end = c.1; ended = b.1 }
+    record {
+      uses = l.1;
+      views = k.1;
+      usage = j.1;
+      subpass = i.1;
+      forbidden = h.1;
+      scope = g.1;
+      transfers = f.1;
+      submits = d.1;
+      end = c.1;
+      ended = b.1;
+    }
 
 pub record IsLimited (line : Line) : Type 0 where
   pub accesses : limits.has_many_accesses line ≡ false
@@ -148,4 +188,14 @@ is_limited s line e =
     let h = first_none (limits.has_many_recs line) _ _ g.1 in
     let i = first_none (limits.has_many_waits line) _ _ h.1 in
     let j = first_none (limits.has_many_signals line) _ _ i.1 in
-    record { accesses = a.0; deps = b.0; subpasses = c.0; uses = d.0; attachments = f.0; batches = g.0; recs = h.0; waits = i.0; signals = j.0 }
+    record {
+      accesses = a.0;
+      deps = b.0;
+      subpasses = c.0;
+      uses = d.0;
+      attachments = f.0;
+      batches = g.0;
+      recs = h.0;
+      waits = i.0;
+      signals = j.0;
+    }

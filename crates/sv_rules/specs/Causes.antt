@@ -2,7 +2,10 @@
 use Rattle.std.specs.Prelude.{◌≡◌, ℕ, [], ◌∷◌, Option, Some, None, Result, Ok, Err, ⊤}
 use Rattle.sv_model.specs.declared.line.Line.{Line}
 use Rattle.sv_model.specs.declared.refusal.Cause.{Cause}
-use Rattle.sv_model.specs.declared.refusal.Cause.TheVariants.{Undeclared, DeclaredTwice, OutOfResource, Empty, AccessWithoutStage, WrongPlace, NoSelfDependency, QueueOfAnotherLane, SemaphoreKind}
+use Rattle.sv_model.specs.declared.refusal.Cause.TheVariants.{Undeclared, DeclaredTwice, OutOfResource}
+use Rattle.sv_model.specs.declared.refusal.Cause.TheVariants.{Empty, AccessWithoutStage, WrongPlace}
+use Rattle.sv_model.specs.declared.refusal.Cause.TheVariants.{NoSelfDependency, QueueOfAnotherLane}
+use Rattle.sv_model.specs.declared.refusal.Cause.TheVariants.{SemaphoreKind}
 use Rattle.sv_model.specs.declared.refusal.Fault.{Fault}
 use Rattle.sv_model.specs.declared.refusal.Fault.TheVariants.{Refused, Memory}
 use Rattle.sv_rules.specs.First.{first_cause, or_else}
@@ -36,5 +39,6 @@ rule_cause s line = or_else (broken_rule s line) (passed_limit s line)
 -- The line is taken where it has no cause; else nothing changes.
 abbrev pub Takes : Taken → Line → ℕ → Taken → Result ⊤ Fault → Type 0
 Takes old line number new (Ok u) = (rule_cause old line ≡ None) × (new ≡ taken_with old line)
-Takes old line number new (Err (Refused refusal)) = (rule_cause old line ≡ Some refusal.cause) × (refusal.line ≡ number) × (new ≡ old)
+Takes old line number new (Err (Refused refusal)) = (rule_cause old line ≡ Some refusal.cause)
+    × (refusal.line ≡ number) × (new ≡ old)
 Takes old line number new (Err Memory) = new ≡ old

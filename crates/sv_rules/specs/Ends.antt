@@ -15,5 +15,6 @@ is_unfinished t = list_any (λ (r : Recording). not (has_ended t r.rec)) t.recor
 -- The trace of the lines, where no recording is open; else the line after the last one is refused.
 abbrev pub EndsWith : Taken → Result Trace Fault → Type 0
 EndsWith s (Ok trace) = (is_unfinished s.trace ≡ false) × (trace ≡ s.trace)
-EndsWith s (Err (Refused refusal)) = (is_unfinished s.trace ≡ true) × (refusal.cause ≡ Unfinished) × (refusal.line ≡ s.lines + 1)
+EndsWith s (Err (Refused refusal)) = (is_unfinished s.trace ≡ true) × (refusal.cause ≡ Unfinished)
+    × (refusal.line ≡ s.lines + 1)
 EndsWith s (Err Memory) = ⊤

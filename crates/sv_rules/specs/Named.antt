@@ -51,7 +51,8 @@ abbrev pub is_of_new_semaphore : Trace → SemaphoreUse → Bool
 is_of_new_semaphore t u = is_new_semaphore t u.sem
 
 abbrev pub batch_names_new_semaphore : Trace → Batch → Bool
-batch_names_new_semaphore t b = list_any (is_of_new_semaphore t) b.waits || list_any (is_of_new_semaphore t) b.signals
+batch_names_new_semaphore t b = list_any (is_of_new_semaphore t) b.waits
+    || list_any (is_of_new_semaphore t) b.signals
 
 abbrev pub names_new_semaphore : Trace → Line → Bool
 names_new_semaphore t (line.Submit lane queue batches fence) = list_any (batch_names_new_semaphore t) batches
@@ -81,7 +82,8 @@ abbrev pub batch_names_new_recording : Trace → Batch → Bool
 batch_names_new_recording t b = list_any (is_new_recording t) b.recs
 
 abbrev pub submits_new_recording : Trace → Line → Bool
-submits_new_recording t (line.Submit lane queue batches fence) = list_any (batch_names_new_recording t) batches
+submits_new_recording t (line.Submit lane queue batches fence) =
+    list_any (batch_names_new_recording t) batches
 submits_new_recording t other = false
 
 abbrev pub is_new_if_any : Trace → Option ℕ → Bool
@@ -95,8 +97,10 @@ goes_on_in_new_recording t line = is_new_if_any t (recording_at line)
 -- It names a queue, resource, semaphore, event, fence, pass or recording that no earlier line declares.
 unfoldable pub is_undeclared : Trace → Line → Bool
 is_undeclared t line =
-    names_new_queue t line || names_new_resource t line || names_new_semaphore t line || names_new_event t line
-    || names_new_fence t line || names_new_pass t line || goes_on_in_new_recording t line || submits_new_recording t line
+    names_new_queue t line || names_new_resource t line || names_new_semaphore t line
+    || names_new_event t line
+    || names_new_fence t line || names_new_pass t line || goes_on_in_new_recording t line
+    || submits_new_recording t line
 
 -- It declares one that an earlier line declares. Buffers and images share one numbering.
 unfoldable pub is_declared_twice : Trace → Line → Bool

@@ -1,5 +1,6 @@
 -- What a text comes to: its trace, or its least bad line.
-use Rattle.std.specs.Prelude.{◌≡◌, ℕ, ◌+◌, ◌<◌, ◌⊎◌, true, false, List, [], Option, Some, None, Result, Ok, Err, length, map, reverse, slice_index_or, take}
+use Rattle.std.specs.Prelude.{◌≡◌, ℕ, ◌+◌, ◌<◌, ◌⊎◌, true, false, List, [], Option, Some, None, Result, Ok}
+use Rattle.std.specs.Prelude.{Err, length, map, reverse, slice_index_or, take}
 use Rattle.sv_model.specs.declared.line.Trace.{Trace}
 use Rattle.sv_model.specs.declared.refusal.Cause.{Cause}
 use Rattle.sv_model.specs.declared.refusal.Cause.TheVariants.{Unfinished}

@@ -47,7 +47,8 @@ some_part test other = false
 -- the part has the form of the other kind of resource, or goes on past the resource's end
 abbrev pub is_outside : Option Resource → Part → Bool
 is_outside (Some (BufferOf size)) (part.Bytes start end) = nat_lt size end
-is_outside (Some (ImageOf mips layers)) (part.Image mip m layer l) = nat_lt mips (mip + m) || nat_lt layers (layer + l)
+is_outside (Some (ImageOf mips layers)) (part.Image mip m layer l) = nat_lt mips (mip + m)
+    || nat_lt layers (layer + l)
 is_outside (Some (BufferOf size)) (part.Image mip m layer l) = true
 is_outside (Some (ImageOf mips layers)) (part.Bytes start end) = true
 is_outside None part = false

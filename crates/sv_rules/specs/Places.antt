@@ -1,5 +1,7 @@
--- Where a line may not stand ("Command Buffer Recording", "Render Pass Commands", "Command Buffer Lifecycle").
-use Rattle.std.specs.Prelude.{ℕ, ◌+◌, Bool, true, false, not, ◌||◌, ◌&&◌, ◌==◌, nat_lt, List, Option, Some, None, length}
+-- Where a line may not stand ("Command Buffer Recording", "Render Pass Commands", "Command Buffer
+-- Lifecycle").
+use Rattle.std.specs.Prelude.{ℕ, ◌+◌, Bool, true, false, not, ◌||◌, ◌&&◌, ◌==◌, nat_lt, List, Option, Some}
+use Rattle.std.specs.Prelude.{None, length}
 use Rattle.std.specs.List.{list_any}
 use Rattle.sv_mask.specs.Usages.{same_layout}
 use Rattle.sv_mask.specs.declared.layout.Layout.{Layout}
@@ -14,8 +16,10 @@ use Rattle.sv_model.specs.declared.line.Part.TheVariants as part
 use Rattle.sv_model.specs.declared.line.PassUse.{PassUse}
 use Rattle.sv_model.specs.declared.line.Recording.{Recording}
 use Rattle.sv_model.specs.declared.line.Trace.{Trace}
-use Rattle.sv_model.specs.LawfulCommands.{is_attachment_usage, is_outside_usage, is_host_usage, declared_usage}
-use Rattle.sv_rules.specs.Taken.{Taken, has_ended, pass_in, standing_in, recording_at, family_of_queue, family_of_recording}
+use Rattle.sv_model.specs.LawfulCommands.{is_attachment_usage, is_outside_usage, is_host_usage}
+use Rattle.sv_model.specs.LawfulCommands.{declared_usage}
+use Rattle.sv_rules.specs.Taken.{Taken, has_ended, pass_in, standing_in, recording_at, family_of_queue}
+use Rattle.sv_rules.specs.Taken.{family_of_recording}
 use Rattle.sv_rules.specs.PartRules.{if_target}
 use Rattle.sv_rules.specs.declared.standing.Standing.{Standing}
 use Rattle.sv_rules.specs.declared.standing.Standing.TheVariants.{InPass}
@@ -116,7 +120,8 @@ are_same a b = false
 
 -- the recording is open, or its family is not the queue's
 abbrev pub may_not_run : Trace → ℕ → ℕ → Bool
-may_not_run t queue rec = not (has_ended t rec) || not (are_same (family_of_recording t rec) (family_of_queue t queue))
+may_not_run t queue rec = not (has_ended t rec) || not
+    (are_same (family_of_recording t rec) (family_of_queue t queue))
 
 abbrev pub batch_may_not_run : Trace → ℕ → Batch → Bool
 batch_may_not_run t queue b = list_any (may_not_run t queue) b.recs
@@ -126,13 +131,16 @@ abbrev pub submits_wrongly : Trace → Line → Bool
 submits_wrongly t (line.Submit lane queue batches fence) = list_any (batch_may_not_run t queue) batches
 submits_wrongly t other = false
 
--- an element has two different families, and neither is the recording's or it stands in a `set_event` or in a render scope
+-- an element has two different families, and neither is the recording's or it stands in a `set_event` or in
+-- a render scope
 abbrev pub has_wrong_transfer : Trace → Line → Bool
-has_wrong_transfer t (line.Barrier rec deps) = list_any (transfers_wrongly (family_of_recording t rec) (is_inside (standing_in t rec))) deps
+has_wrong_transfer t (line.Barrier rec deps) = list_any
+    (transfers_wrongly (family_of_recording t rec) (is_inside (standing_in t rec))) deps
 has_wrong_transfer t (line.SetEvent rec event deps) = list_any transfers deps
 has_wrong_transfer t other = false
 
--- a render scope begins in another, or goes on or ends outside its own; `next_subpass` in the last subpass, `end_pass` before it
+-- a render scope begins in another, or goes on or ends outside its own; `next_subpass` in the last subpass,
+-- `end_pass` before it
 abbrev pub breaks_scope : Trace → Line → Bool
 breaks_scope t (line.BeginRendering rec attachments) = is_inside (standing_in t rec)
 breaks_scope t (line.BeginPass rec pass views) = is_inside (standing_in t rec)
@@ -162,9 +170,11 @@ is_misused false usage = is_attachment_usage usage || is_host_usage usage
 abbrev pub is_misused_access : Bool → Declared → Bool
 is_misused_access inside a = is_misused inside (declared_usage a)
 
--- a `work` has a colour, depth or input attachment usage outside a render scope, a compute, copy, resolve, blit or clear usage inside one, or a usage of the host
+-- a `work` has a colour, depth or input attachment usage outside a render scope, a compute, copy, resolve,
+-- blit or clear usage inside one, or a usage of the host
 abbrev pub has_wrong_usage : Trace → Line → Bool
-has_wrong_usage t (line.Work rec accesses) = list_any (is_misused_access (is_inside (standing_in t rec))) accesses
+has_wrong_usage t (line.Work rec accesses) = list_any
+    (is_misused_access (is_inside (standing_in t rec))) accesses
 has_wrong_usage t other = false
 
 -- `begin_pass` has another number of views than its pass has attachments

@@ -1,5 +1,7 @@
--- What holds of the trace of lines of which none is refused, before their end: it is lawful but for recordings that are open.
-use Rattle.std.specs.Prelude.{◌≡◌, ℕ, ◌≤◌, ◌<◌, List, true, All, IsTrue, length, map, reverse, slice_get, take}
+-- What holds of the trace of lines of which none is refused, before their end: it is lawful but for
+-- recordings that are open.
+use Rattle.std.specs.Prelude.{◌≡◌, ℕ, ◌≤◌, ◌<◌, List, true, All, IsTrue, length, map, reverse, slice_get}
+use Rattle.std.specs.Prelude.{take}
 use Rattle.std.specs.List.{AllPairs}
 use Rattle.sv_model.specs.declared.line.Batch.{Batch}
 use Rattle.sv_model.specs.declared.line.Line.{Line}
@@ -7,11 +9,14 @@ use Rattle.sv_model.specs.declared.line.Line.TheVariants as line
 use Rattle.sv_model.specs.declared.line.Mark.{Mark}
 use Rattle.sv_model.specs.declared.line.Recording.{Recording}
 use Rattle.sv_model.specs.declared.line.Trace.{Trace}
-use Rattle.sv_model.specs.Compile.{scope_after}
-use Rattle.sv_model.specs.Enabled.{is_published, are_published}
-use Rattle.sv_model.specs.History.{IsOfTrace, calls_of, publications_of, lane_script, recorder_script, call_of_mark, batches_in}
+use Rattle.sv_model.specs.Recordings.{scope_after}
+use Rattle.sv_model.specs.Holding.{is_published, are_published}
+use Rattle.sv_model.specs.History.{IsOfTrace, calls_of, publications_of, lane_script, recorder_script}
+use Rattle.sv_model.specs.History.{call_of_mark, batches_in}
 use Rattle.sv_model.specs.LawfulCommands.{AreLawful, IsOutside}
-use Rattle.sv_model.specs.Lawful.{IsLawfulQueue, IsLawfulResource, IsLawfulSemaphore, IsLawfulEventLine, IsLawfulFence, IsLawfulPassLine, AreOnce, Differ, IsLawfulCall, script_of, event_count}
+use Rattle.sv_model.specs.Lawful.{IsLawfulQueue, IsLawfulResource, IsLawfulSemaphore, IsLawfulEventLine}
+use Rattle.sv_model.specs.Lawful.{IsLawfulFence, IsLawfulPassLine, AreOnce, Differ, IsLawfulCall, script_of}
+use Rattle.sv_model.specs.Lawful.{event_count}
 use Rattle.sv_model.specs.Size.{work_size}
 
 -- these lines are of one kind and lawful, and declare each thing once
@@ -43,7 +48,8 @@ pub record RecordingIsLawfulSoFar (lines : ℕ) (t : Trace) (r : Recording) : Ty
 
 -- the recordings that the event at that place submits have ended before it
 abbrev pub IsAfterItsRecordings : Trace → List Mark → ℕ → Type 0
-IsAfterItsRecordings t marks n = IsTrue (are_published (take n marks) (batches_in (call_of_mark t (slice_get marks n))))
+IsAfterItsRecordings t marks n = IsTrue (are_published (take n marks)
+    (batches_in (call_of_mark t (slice_get marks n))))
 
 -- the property of each recording that a call names
 abbrev pub NamesAll : (ℕ → Type 0) → Line → Type 0

@@ -1,10 +1,11 @@
--- Where a command stands: in no render scope, in dynamic rendering, or in a subpass of a pass ("Render Pass Commands").
+-- Where a command stands: in no render scope, in dynamic rendering, or in a subpass of a pass ("Render Pass
+-- Commands").
 use Rattle.std.specs.Prelude.{ℕ, Bool, true, false, List, count_by}
 use Rattle.sv_model.specs.declared.line.Attachment.{Attachment}
 use Rattle.sv_model.specs.declared.line.Store.{Store}
 use Rattle.sv_model.specs.declared.line.Store.TheVariants as store
-use Rattle.sv_model.specs.Compile.{Scope}
-use Rattle.sv_model.specs.Compile as scope
+use Rattle.sv_model.specs.Recordings.{Scope}
+use Rattle.sv_model.specs.Recordings as scope
 use Rattle.sv_rules.specs.declared.standing.Standing.{Standing}
 use Rattle.sv_rules.specs.declared.standing.Standing.TheVariants.{Outside, InRendering, InPass}
 

@@ -1,14 +1,16 @@
 -- What the lines before a line come to.
-use Rattle.std.specs.Prelude.{ℕ, ◌+◌, Bool, true, false, ◌||◌, List, [], ◌∷◌, Option, Some, None, reverse, option_map}
+use Rattle.std.specs.Prelude.{ℕ, ◌+◌, Bool, true, false, ◌||◌, List, [], ◌∷◌, Option, Some, None, reverse}
+use Rattle.std.specs.Prelude.{option_map}
 use Rattle.sv_model.specs.declared.line.Line.{Line}
 use Rattle.sv_model.specs.declared.line.Line.TheVariants as line
 use Rattle.sv_model.specs.declared.line.Recording.{Recording}
 use Rattle.sv_model.specs.declared.line.Trace.{Trace}
 use Rattle.sv_model.specs.declared.line.SemKind.{SemKind}
-use Rattle.sv_model.specs.Declarations.{QueueLine, Resource, Pass, queue_of, resource_of, kind_of, pass_of, recording_of, commands_of}
-use Rattle.sv_model.specs.Enabled.{is_published}
+use Rattle.sv_model.specs.Declarations.{QueueLine, Resource, Pass, queue_of, resource_of, kind_of, pass_of}
+use Rattle.sv_model.specs.Declarations.{recording_of, commands_of}
+use Rattle.sv_model.specs.Holding.{is_published}
 use Rattle.sv_model.specs.Size.{recording_size}
-use Rattle.sv_model.specs.Compile.{Scope, scope_after}
+use Rattle.sv_model.specs.Recordings.{Scope, scope_after}
 use Rattle.sv_rules.specs.declared.standing.Standing.{Standing}
 use Rattle.sv_rules.specs.Standings.{standing_of}
 use Rattle.sv_rules.specs.Trace.{no_lines, with_line}
@@ -28,7 +30,11 @@ is_written other = true
 
 -- with one more line
 abbrev pub taken_with : Taken → Line → Taken
-taken_with s line = record { lines = s.lines + 1; begun = s.begun || is_written line; trace = with_line s.trace line }
+taken_with s line = record {
+  lines = s.lines + 1;
+  begun = s.begun || is_written line;
+  trace = with_line s.trace line;
+}
 
 -- what these lines come to, of which the newest stands first
 unfoldable pub taken_of : List Line → Taken

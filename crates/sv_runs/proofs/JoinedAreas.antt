@@ -1,5 +1,6 @@
 -- Areas that are joined, and lists with one more at the end.
-use Rattle.std.proofs.Common.{◌≡◌, ℕ, zero, suc, ◌+◌, ◌-◌, ◌<◌, List, [], ◌∷◌, ◌++◌, map, refl, sym, ◌∙◌, ap, subst, arith}
+use Rattle.std.proofs.Common.{◌≡◌, ℕ, zero, suc, ◌+◌, ◌-◌, ◌<◌, List, [], ◌∷◌, ◌++◌, map, refl, sym, ◌∙◌}
+use Rattle.std.proofs.Common.{ap, subst, arith}
 use Rattle.std.specs.List.{All, flat_map, range_with_len}
 use Rattle.std.proofs.lemmas.List.{map-append, append-nil}
 use Rattle.std.proofs.lemmas.List.Elements.{All-cons, All-nil, All-head, All-tail}
@@ -16,34 +17,47 @@ ranges a zero n = let e : zero + n ≡ n = omega arith in let f : a + zero ≡ a
 ranges a (suc m) n =
     let e : suc m + n ≡ suc (m + n) = omega arith in
     let f : (a + 1) + m ≡ a + suc m = omega arith in
-    ap (range_with_len a) e ∙ ap (λ xs. a ∷ xs) (ranges (a + 1) m n ∙ ap (λ k. range_with_len (a + 1) m ++ range_with_len k n) f)
+    ap (range_with_len a) e ∙ ap (λ xs. a ∷ xs) (ranges (a + 1) m n
+    ∙ ap (λ k. range_with_len (a + 1) m ++ range_with_len k n) f)
 
-spans : (a b c : ℕ) → a < b → b < c → range_with_len a (c - a) ≡ range_with_len a (b - a) ++ range_with_len b (c - b)
+spans : (a b c : ℕ) → a < b → b < c → range_with_len a (c - a) ≡ range_with_len a (b - a)
+    ++ range_with_len b (c - b)
 spans a b c h k =
     let e : c - a ≡ (b - a) + (c - b) = omega arith in
     let f : a + (b - a) ≡ b = omega arith in
-    ap (range_with_len a) e ∙ ranges a (b - a) (c - b) ∙ ap (λ k. range_with_len a (b - a) ++ range_with_len k (c - b)) f
+    ap (range_with_len a) e ∙ ranges a (b - a) (c - b)
+    ∙ ap (λ k. range_with_len a (b - a) ++ range_with_len k (c - b)) f
 
 -- the cells of an image's box of one mip
-row : (res mip n layer layers : ℕ) → n ≡ 1 → flat_map (λ m. map (λ l. Texel res m l) (range_with_len layer layers)) (range_with_len mip n) ≡ map (λ l. Texel res mip l) (range_with_len layer layers)
+row : (res mip n layer layers : ℕ) → n ≡ 1 → flat_map
+    (λ m. map (λ l. Texel res m l) (range_with_len layer layers)) (range_with_len mip n)
+    ≡ map (λ l. Texel res mip l) (range_with_len layer layers)
 row res mip n layer layers e = rw e (append-nil (map (λ l. Texel res mip l) (range_with_len layer layers)))
 
 -- the cells of two areas of which the second begins where the first one ends
-pub cells_joined : (a b : Area) → IsRun a → IsRun b → Follows a b → cells_of (joined_area a b) ≡ cells_of a ++ cells_of b
+pub cells_joined : (a b : Area) → IsRun a → IsRun b → Follows a b → cells_of (joined_area a b) ≡ cells_of a
+    ++ cells_of b
 unfolding cells_of
 cells_joined (Bytes res span) (Bytes r next) h k f =
     let e = spans span.start span.end next.end h (subst (λ (n : ℕ). n < next.end) (sym f.1) k) in
     ap (map (λ at. Byte res at)) e
-    ∙ map-append (λ at. Byte res at) (range_with_len span.start (span.end - span.start)) (range_with_len span.end (next.end - span.end))
-    ∙ ap (λ (p : ℕ × ℕ). map (λ at. Byte res at) (range_with_len span.start (span.end - span.start)) ++ map (λ at. Byte p.0 at) (range_with_len p.1 (next.end - p.1))) (let q : (res, span.end) ≡ (r, next.start) = cc in q)
+    ∙ map-append (λ at. Byte res at) (range_with_len span.start (span.end - span.start))
+    (range_with_len span.end (next.end - span.end))
+    ∙ ap (λ (p : ℕ × ℕ). map (λ at. Byte res at) (range_with_len span.start (span.end - span.start))
+    ++ map (λ at. Byte p.0 at) (range_with_len p.1 (next.end - p.1)))
+    (let q : (res, span.end) ≡ (r, next.start) = cc in q)
 cells_joined (Image res box) (Image r next) h k f =
     row res box.mip box.mips box.layer (box.layers + next.layers) h.0
     ∙ ap (map (λ l. Texel res box.mip l)) (ranges box.layer box.layers next.layers)
-    ∙ map-append (λ l. Texel res box.mip l) (range_with_len box.layer box.layers) (range_with_len (box.layer + box.layers) next.layers)
-    ∙ ap (λ (p : ℕ × ℕ × ℕ). map (λ l. Texel res box.mip l) (range_with_len box.layer box.layers) ++ map (λ l. Texel p.0 p.1 l) (range_with_len p.2 next.layers)) (let q : (res, box.mip, box.layer + box.layers) ≡ (r, next.mip, next.layer) = cc in q)
+    ∙ map-append (λ l. Texel res box.mip l) (range_with_len box.layer box.layers)
+    (range_with_len (box.layer + box.layers) next.layers)
+    ∙ ap (λ (p : ℕ × ℕ × ℕ). map (λ l. Texel res box.mip l) (range_with_len box.layer box.layers)
+    ++ map (λ l. Texel p.0 p.1 l) (range_with_len p.2 next.layers))
+    (let q : (res, box.mip, box.layer + box.layers) ≡ (r, next.mip, next.layer) = cc in q)
     ∙ sym (
     ap (λ xs. xs ++ cells_of (Image r next)) (row res box.mip box.mips box.layer box.layers h.0)
-    ∙ ap (λ ys. map (λ l. Texel res box.mip l) (range_with_len box.layer box.layers) ++ ys) (row r next.mip next.mips next.layer next.layers k.0))
+    ∙ ap (λ ys. map (λ l. Texel res box.mip l) (range_with_len box.layer box.layers) ++ ys)
+    (row r next.mip next.mips next.layer next.layers k.0))
 cells_joined (Bytes res span) (Image r next) h k f = absurd f
 cells_joined (Image res box) (Bytes r next) h k f = absurd f
 
@@ -66,7 +80,8 @@ follows_back (Image p s) (Image q t) (Image r u) f = f
 -- what holds of a list with one more holds of each part
 pub all_front : {A : Type 0} (P : A → Type 0) (xs : List A) (a : A) → All P (xs ++ a ∷ []) → All P xs
 all_front P [] a h = All-nil P
-all_front P (x ∷ xs) a h = All-cons P x xs (All-head P x (xs ++ a ∷ []) h) (all_front P xs a (All-tail P x (xs ++ a ∷ []) h))
+all_front P (x ∷ xs) a h = All-cons P x xs (All-head P x (xs ++ a ∷ []) h)
+    (all_front P xs a (All-tail P x (xs ++ a ∷ []) h))
 
 pub all_last : {A : Type 0} (P : A → Type 0) (xs : List A) (a : A) → All P (xs ++ a ∷ []) → P a
 all_last P [] a h = All-head P a [] h

@@ -24,4 +24,15 @@ no_board = record { words = 0; slots = 0; views_name = 0; atom = 0; block = 0; o
 
 -- the trace of nothing
 abbrev pub no_trace : Trace
-no_trace = record { queues = []; resources = []; semaphores = []; events = []; fences = []; passes = []; recordings = []; lane_scripts = []; recorder_scripts = []; text_order = [] }
+no_trace = record {
+  queues = [];
+  resources = [];
+  semaphores = [];
+  events = [];
+  fences = [];
+  passes = [];
+  recordings = [];
+  lane_scripts = [];
+  recorder_scripts = [];
+  text_order = [];
+}

@@ -1,4 +1,5 @@
-ghost use Rattle.std.specs.Prelude.{◌≡◌, ℕ, [], ◌+◌, ◌<◌, ◌≤◌, IfOk, length, replicate, slice_index, slice_index_or, slice_set};
+ghost use Rattle.std.specs.Prelude.{◌≡◌, ℕ, [], ◌+◌, ◌<◌, ◌≤◌, IfOk, length, replicate, slice_index};
+ghost use Rattle.std.specs.Prelude.{slice_index_or, slice_set};
 ghost use Rattle.sv_share.specs.Views.{dealing};
 ghost use Rattle.sv_share.specs.Values.{share_is, book_is};
 
@@ -41,7 +42,8 @@ impl Model for Book {
 
     ghost view = { λ b. book_is b.seat.table_id (counts_of b.seat.me.0.of) };
 
-    ghost invariant = { λ b. (b.seat.me.1 ≡ []) × (length b.seat.me.0.of ≡ 32) × ((a : ℕ) → a < 32 → 0 < (at b.seat.me.0.of a).parts) };
+    ghost invariant = { λ b. (b.seat.me.1 ≡ []) × (length b.seat.me.0.of ≡ 32)
+        × ((a : ℕ) → a < 32 → 0 < (at b.seat.me.0.of a).parts) };
 }
 
 /// One actor's count. Contracts see the board, the actor and the count.
@@ -60,7 +62,8 @@ impl Model for Share {
 
     ghost view = { λ s. share_is s.seat.table_id s.actor (at s.seat.me.0.of s.actor).count };
 
-    ghost invariant = { λ s. (s.actor < 32) × (s.seat.me ≡ (share_view s.actor (at s.seat.me.0.of s.actor).count, [])) };
+    ghost invariant = { λ s. (s.actor < 32) × (s.seat.me
+        ≡ (share_view s.actor (at s.seat.me.0.of s.actor).count, [])) };
 }
 
 impl Share {
@@ -96,7 +99,8 @@ impl Board {
         requires room { share.count < 18446744073709551615 }
         ensures equal { slice_index book.old.counts share.actor ≡ share.count }
         ensures share { result ≡ share_is share.board share.actor (share.count + 1) }
-        ensures book { book.new ≡ book_is book.old.board (slice_set book.old.counts share.actor (share.count + 1)) }
+        ensures book { book.new ≡ book_is book.old.board
+            (slice_set book.old.counts share.actor (share.count + 1)) }
     {
         let Share { actor, seat } = share;
         let shared = &self.table.shared;
@@ -112,7 +116,8 @@ impl Board {
         requires { actors ≤ 32 }
         ensures book { IfOk result (λ r. r.1 ≡ book_is r.0 (replicate 32 0)) }
         ensures count { IfOk result (λ r. length r.2 ≡ actors) }
-        ensures shares { IfOk result (λ r. (i : ℕ) (d : _) → i < actors → slice_index_or r.2 i d ≡ share_is r.0 i 0) }
+        ensures shares { IfOk result (λ r. (i : ℕ) (d : _) → i < actors → slice_index_or r.2 i d
+            ≡ share_is r.0 i 0) }
     {
         let (table, mut seat) = Words::of_words(alloc, &[0; 32], &())?;
         let mut shares = Vec::new(alloc);
@@ -126,7 +131,8 @@ impl Board {
 
 // The share of the next actor.
 fn deal(shared: &Table32, seat: &mut Place, actor: u32) -> Share
-    requires fits { (seat.old.table_id ≡ shared.now.table_id) × (shared.now.table_id.words ≡ 32) × (actor < 32) }
+    requires fits { (seat.old.table_id ≡ shared.now.table_id) × (shared.now.table_id.words ≡ 32)
+        × (actor < 32) }
     requires view { seat.old.me ≡ (dealing actor, []) }
     ensures seat { (seat.new.table_id ≡ seat.old.table_id) × (seat.new.me ≡ (dealing (actor + 1), [])) }
     ensures share { result ≡ share_is seat.old.table_id actor 0 }

@@ -1,4 +1,8 @@
 //! One count per actor, kept so that the value behind a lock and the actor agree on it.
+//!
+//! - knows numbers of actors, and no lock
+//! - definitions: `Values`, `Views`
+//! - used by `sv_device`
 #![tactic(auto)]
 
 mod board;

@@ -15,12 +15,15 @@ use Rattle.sv_space.specs.declared.shape.Shape.{Shape}
 use Rattle.sv_space.proofs.Keeping.{known_before}
 
 -- one piece, of which nothing is known
-module _ (res : ℕ) (s : Shape) (span : Span) (known : Known) (upto : known.upto ≡ 0) (step : known.state.step ≡ 0) (stands : (cell : Cell) → StandsFor (record { cell = cell; accesses = []; deps = [] }) 0 known.state) where
+module _ (res : ℕ) (s : Shape) (span : Span) (known : Known) (upto : known.upto ≡ 0)
+    (step : known.state.step ≡ 0) (stands : (cell : Cell)
+    → StandsFor (record { cell = cell; accesses = []; deps = [] }) 0 known.state) where
   abbrev piece : Part Known
   piece = record { span = span; value = known }
 
   of_piece : IsPieceOf [] res s piece
-  of_piece = subst (λ (n : ℕ). AreKnown [] (IsOf res s span) n known.state) (sym upto) (known_before (IsOf res s span) known.state step stands)
+  of_piece = subst (λ (n : ℕ). AreKnown [] (IsOf res s span) n known.state) (sym upto)
+      (known_before (IsOf res s span) known.state step stands)
 
   pub one_within : (parts : List (Part Known)) → parts ≡ piece ∷ [] → AreWithin 0 parts
   one_within parts is = subst (λ (ps : List (Part Known)). AreWithin 0 ps) (sym is) one
@@ -43,4 +46,5 @@ pub fresh_stands : (lines : List Line) → AreFresh lines → AreLinesOf [] line
 fresh_stands lines fresh k d lt = (fresh k d lt).stands
 
 pub some_cells : (mips layers : ℕ) → 1 ≤ mips → 1 ≤ layers → 0 < mips * layers
-some_cells mips layers some_mips some_layers = let m : 1 * layers ≤ mips * layers = mul-le-mul_right layers some_mips in omega (arith, m, some_layers)
+some_cells mips layers some_mips some_layers = let m : 1 * layers ≤ mips * layers =
+    mul-le-mul_right layers some_mips in omega (arith, m, some_layers)

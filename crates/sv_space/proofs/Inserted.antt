@@ -1,7 +1,9 @@
 -- A line among the others, by the number of its resource.
-use Rattle.std.proofs.Common.{ℕ, ◌≡◌, ◌<◌, ◌≤◌, ◌+◌, ◌-◌, ◌⊎◌, inl, inr, List, Contains, length, get_or, arith, refl, sym, ◌∙◌, ap, subst}
+use Rattle.std.proofs.Common.{ℕ, ◌≡◌, ◌<◌, ◌≤◌, ◌+◌, ◌-◌, ◌⊎◌, inl, inr, List, Contains, length, get_or}
+use Rattle.std.proofs.Common.{arith, refl, sym, ◌∙◌, ap, subst}
 use Rattle.std.specs.List.{insert}
-use Rattle.std.proofs.lemmas.List.Edits.{length-insert, get_or-insert_above, get_or-insert_at, get_or-insert_below}
+use Rattle.std.proofs.lemmas.List.Edits.{length-insert, get_or-insert_above, get_or-insert_at}
+use Rattle.std.proofs.lemmas.List.Edits.{get_or-insert_below}
 use Rattle.sv_space.specs.Sorted.{AreSorted, IsPlaceOf}
 use Rattle.sv_space.specs.declared.line.Line.{Line}
 
@@ -17,9 +19,13 @@ module _ (lines : List Line) (at : ℕ) (line : Line) (le : at ≤ length lines)
   here k d same = ap (λ (n : ℕ). get_or (insert lines at line) n d) same ∙ get_or-insert_at lines at line d le
 
   above : (k : ℕ) (d : Line) → at < k → get_or (insert lines at line) k d ≡ get_or lines (k - 1) d
-  above k d lt = let e : k - 1 + 1 ≡ k = omega (arith, lt) in subst (λ (n : ℕ). get_or (insert lines at line) n d ≡ get_or lines (k - 1) d) e (get_or-insert_above lines at line d (k - 1) (omega (arith, lt)) le)
+  above k d lt = let e : k - 1 + 1 ≡ k = omega (arith, lt) in
+      subst (λ (n : ℕ). get_or (insert lines at line) n d ≡ get_or lines (k - 1) d) e
+      (get_or-insert_above lines at line d (k - 1) (omega (arith, lt)) le)
 
-  pub insert_each : (P : Line → Type 0) → P line → ((k : ℕ) (d : Line) → k < length lines → P (get_or lines k d)) → (k : ℕ) (d : Line) → k < length (insert lines at line) → P (get_or (insert lines at line) k d)
+  pub insert_each : (P : Line → Type 0) → P line →
+      ((k : ℕ) (d : Line) → k < length lines → P (get_or lines k d)) → (k : ℕ) (d : Line) → k
+      < length (insert lines at line) → P (get_or (insert lines at line) k d)
   insert_each P one each k d lt =
       let l = length-insert lines at line le in
       elim (order k at) [
@@ -36,7 +42,12 @@ module _ (lines : List Line) (at : ℕ) (line : Line) (le : at ≤ length lines)
   pub insert_kept : (l : Line) → Contains lines l → Contains (insert lines at line) l
   insert_kept l (k, lt, is) = elim (order k at) [
     | inl less ↦ (k, (let n = length-insert lines at line le in omega (arith, n, lt)), below k l less ∙ is)
-    | inr w ↦ (k + 1, (let n = length-insert lines at line le in omega (arith, n, lt)), get_or-insert_above lines at line l k (elim w [ inl same ↦ omega (arith, same) | inr more ↦ omega (arith, more) ]) le ∙ is)
+    | inr w ↦ (
+      k + 1,
+      (let n = length-insert lines at line le in omega (arith, n, lt)),
+      get_or-insert_above lines at line l k (elim w
+          [ inl same ↦ omega (arith, same) | inr more ↦ omega (arith, more) ]) le ∙ is,
+    )
   ]
 
   pub insert_only : (l : Line) → Contains (insert lines at line) l → Contains lines l ⊎ (l ≡ line)
@@ -50,7 +61,8 @@ module _ (lines : List Line) (at : ℕ) (line : Line) (le : at ≤ length lines)
         ]
       ]
 
-  module _ (sorted : AreSorted lines) (place : IsPlaceOf line.res lines at) (other : (d : Line) → at < length lines → (get_or lines at d).res ≡ line.res → ⊥) where
+  module _ (sorted : AreSorted lines) (place : IsPlaceOf line.res lines at)
+      (other : (d : Line) → at < length lines → (get_or lines at d).res ≡ line.res → ⊥) where
     -- those behind have larger numbers
     larger : (k : ℕ) (d : Line) → at ≤ k → k < length lines → line.res < (get_or lines k d).res
     larger k d low lt =

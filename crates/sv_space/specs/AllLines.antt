@@ -36,24 +36,34 @@ pub record AreSameLines (old new : List Line) : Type 0 where
 
 -- what is kept of each line stands for the work
 abbrev pub AreLinesOf : List Step → List Line → Type 0
-AreLinesOf work lines = (k : ℕ) (d : Line) → k < length lines → IsLineOf work (slice_index_or lines k d).res (slice_index_or lines k d).shape (slice_index_or lines k d).pieces.parts.items
+AreLinesOf work lines = (k : ℕ) (d : Line) → k < length lines
+    → IsLineOf work (slice_index_or lines k d).res (slice_index_or lines k d).shape
+    (slice_index_or lines k d).pieces.parts.items
 
 -- no piece was given more groups than so many
 abbrev pub AreAllWithin : ℕ → List Line → Type 0
-AreAllWithin groups lines = (k : ℕ) (d : Line) → k < length lines → AreWithin groups (slice_index_or lines k d).pieces.parts.items
+AreAllWithin groups lines = (k : ℕ) (d : Line) → k < length lines
+    → AreWithin groups (slice_index_or lines k d).pieces.parts.items
 
 abbrev pub AreAllLater : ℕ → List Line → List Line → Type 0
-AreAllLater groups new old = (k : ℕ) (d : Line) → k < length old → ArePartsLater groups (slice_index_or new k d).pieces.parts.items (slice_index_or old k d).pieces.parts.items
+AreAllLater groups new old = (k : ℕ) (d : Line) → k < length old
+    → ArePartsLater groups (slice_index_or new k d).pieces.parts.items
+    (slice_index_or old k d).pieces.parts.items
 
 abbrev pub AreAllPartsOf : List Line → List Line → Type 0
-AreAllPartsOf new old = (k : ℕ) (d : Line) → k < length old → ArePartsOf (slice_index_or new k d).pieces.parts.items (slice_index_or old k d).pieces.parts.items
+AreAllPartsOf new old = (k : ℕ) (d : Line) → k < length old
+    → ArePartsOf (slice_index_or new k d).pieces.parts.items (slice_index_or old k d).pieces.parts.items
 
 -- the pieces of each line are cut for the area
 abbrev pub AreAllCut : Area → List Line → Type 0
-AreAllCut area lines = (k : ℕ) (d : Line) → k < length lines → IsCutFor area (slice_index_or lines k d).res (slice_index_or lines k d).shape (slice_index_or lines k d).pieces.parts.items
+AreAllCut area lines = (k : ℕ) (d : Line) → k < length lines
+    → IsCutFor area (slice_index_or lines k d).res (slice_index_or lines k d).shape
+    (slice_index_or lines k d).pieces.parts.items
 
 abbrev pub AreAllCaught : Area → ℕ → List Line → Type 0
-AreAllCaught area groups lines = (k : ℕ) (d : Line) → k < length lines → IsCaughtFor area groups (slice_index_or lines k d).res (slice_index_or lines k d).shape (slice_index_or lines k d).pieces.parts.items
+AreAllCaught area groups lines = (k : ℕ) (d : Line) → k < length lines
+    → IsCaughtFor area groups (slice_index_or lines k d).res (slice_index_or lines k d).shape
+    (slice_index_or lines k d).pieces.parts.items
 
 -- nothing was done yet to any cell
 abbrev pub AreFresh : List Line → Type 0

@@ -9,7 +9,8 @@ use Rattle.sv_model.specs.declared.work.Area.TheVariants.{Bytes, Image}
 -- the area is of cells of the resource, of which there are some
 abbrev pub IsIn : Option Resource → Area → Type 0
 IsIn (Some (BufferOf size)) (Bytes res span) = (span.start < span.end) × (span.end ≤ size)
-IsIn (Some (ImageOf mips layers)) (Image res box) = (0 < box.mips) × (box.mip + box.mips ≤ mips) × (0 < box.layers) × (box.layer + box.layers ≤ layers)
+IsIn (Some (ImageOf mips layers)) (Image res box) = (0 < box.mips) × (box.mip + box.mips ≤ mips)
+    × (0 < box.layers) × (box.layer + box.layers ≤ layers)
 IsIn (Some (BufferOf size)) (Image res box) = ⊥
 IsIn (Some (ImageOf mips layers)) (Bytes res span) = ⊥
 IsIn None area = ⊥

@@ -17,11 +17,13 @@ IsPieceOf work res shape p = AreKnown work (IsOf res shape p.span) p.value.upto 
 
 -- no piece was given more groups than so many
 abbrev pub AreWithin : ℕ → List (Part Known) → Type 0
-AreWithin groups parts = (k : ℕ) (d : Part Known) → k < length parts → (slice_index_or parts k d).value.upto ≤ groups
+AreWithin groups parts = (k : ℕ) (d : Part Known) → k < length parts → (slice_index_or parts k d).value.upto
+    ≤ groups
 
 -- what is kept of each piece of the line stands for its cells
 abbrev pub IsLineOf : List Step → ℕ → Shape → List (Part Known) → Type 0
-IsLineOf work res shape parts = (k : ℕ) (d : Part Known) → k < length parts → IsPieceOf work res shape (slice_index_or parts k d)
+IsLineOf work res shape parts = (k : ℕ) (d : Part Known) → k < length parts
+    → IsPieceOf work res shape (slice_index_or parts k d)
 
 -- the line is of the same resource
 pub record IsSameLine (old new : Line) : Type 0 where
@@ -31,7 +33,8 @@ pub record IsSameLine (old new : Line) : Type 0 where
 
 -- the same accesses of the step touch each cell of the span, and its groups tell no two of them apart
 pub record IsUniform (step : Step) (res : ℕ) (shape : Shape) (span : Span) : Type 0 where
-  pub accesses : (c e : Cell) → IsOf res shape span c → IsOf res shape span e → on_cell c (accesses_of step) ≡ on_cell e (accesses_of step)
+  pub accesses : (c e : Cell) → IsOf res shape span c → IsOf res shape span e → on_cell c (accesses_of step)
+      ≡ on_cell e (accesses_of step)
   pub groups : (c e : Cell) → IsOf res shape span c → IsOf res shape span e → AreAlike (groups_of step) c e
 
 -- nothing was done yet to the cells of the line

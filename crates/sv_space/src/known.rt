@@ -1,8 +1,9 @@
 //! What is kept for the cells of a piece.
-ghost use Rattle.std.specs.Prelude.{◌≡◌, ◌+◌, ◌<◌, ◌≤◌, ℕ, Bool, List, [], false, length, drop, IfOk, IfSome, IsTrue, MatchOption, OnOk};
+ghost use Rattle.std.specs.Prelude.{◌≡◌, ◌+◌, ◌<◌, ◌≤◌, ℕ, Bool, List, [], false, length, drop, IfOk};
+ghost use Rattle.std.specs.Prelude.{IfSome, IsTrue, MatchOption, OnOk};
 ghost use Rattle.std.specs.Option.{option_copied};
 ghost use Rattle.sv_model.specs.Cells.{covers, IsOnly};
-ghost use Rattle.sv_model.specs.Chain.{IsOwn, own_deps, writes};
+ghost use Rattle.sv_model.specs.Dependencies.{IsOwn, own_deps, writes};
 ghost use Rattle.sv_model.specs.Order.{Story, IsBelow, IsClear, IsPartner, NoRaces, extended, kind_of};
 ghost use Rattle.sv_model.specs.Reports.{on_cell};
 ghost use Rattle.sv_model.specs.declared.work.Cell.{Cell};
@@ -20,8 +21,8 @@ use sv_model::work::{Access, Area, Cell, Group, Partner};
 use sv_rangemap::Piece;
 use sv_state::CellState;
 
-/// The state of cells that are alike, and how many groups of the work it was given. Contracts see what the state
-/// holds, so that a copy is equal.
+/// The state of cells that are alike, and how many groups of the work it was given. Contracts see what the
+/// state holds, so that a copy is equal.
 #[derive(Drop)]
 pub struct Known {
     state: CellState,
@@ -42,7 +43,8 @@ impl Known {
     pub fn new(alloc: Global) -> Known
         ensures upto { result.upto ≡ 0 }
         ensures step { result.state.step ≡ 0 }
-        ensures stands { (cell : Cell) → StandsFor (record { cell = cell; accesses = []; deps = [] }) 0 result.state }
+        ensures stands { (cell : Cell) → StandsFor
+            (record { cell = cell; accesses = []; deps = [] }) 0 result.state }
     {
         Known {
             state: CellState::new(alloc),
@@ -69,7 +71,8 @@ impl Known {
     pub fn check(&self, access: &Access, group: Option<&Group>) -> Option<Partner>
         requires own { IfSome group (λ g. IsOwn access.now g.now) }
         requires held { IfSome group (λ g. RangesHold g.now access.now.area) }
-        ensures { (story : Story) (epoch : ℕ) → StandsFor story epoch self.now.state → NoRaces story epoch → IsBelow access.now.step story
+        ensures { (story : Story) (epoch : ℕ) → StandsFor story epoch self.now.state → NoRaces story epoch
+            → IsBelow access.now.step story
             → IsTrue (covers access.now.area story.cell)
             → MatchOption result
             (IsClear (extended story (own_deps (option_copied group.entry))) epoch access.now)
@@ -84,7 +87,8 @@ impl Known {
     pub fn catch_up(&mut self, log: &[Group], at: &Area) -> Result<u64, AllocError>
         requires { self.old.upto ≤ length log.now }
         ensures upto { OnOk result (self.new.upto ≡ length log.now) }
-        ensures gone { OnOk result ((cell : Cell) → IsOnly at.now cell → MayFollow self.old.state.step (drop self.old.upto log.now)
+        ensures gone { OnOk result ((cell : Cell) → IsOnly at.now cell
+            → MayFollow self.old.state.step (drop self.old.upto log.now)
             → HasGone cell (drop self.old.upto log.now) self.old.state self.new.state) }
         ensures given { IfOk result (λ given. given + self.old.upto ≡ length log.now) }
     {
@@ -104,7 +108,9 @@ impl Known {
     ) -> Result<(), AllocError>
         requires { HaveOwnGroups groups.now accesses.now }
         ensures upto { self.new.upto ≡ self.old.upto }
-        ensures recorded { OnOk result ((raced : Bool) × (mid : Contents) × IsRecording (own_of groups.now) (on_cell cell accesses.now) raced self.old.state mid self.new.state) }
+        ensures recorded { OnOk result ((raced : Bool) × (mid : Contents)
+            × IsRecording (own_of groups.now) (on_cell cell accesses.now) raced self.old.state mid
+            self.new.state) }
     {
         record_on(alloc, &mut self.state, cell, accesses, groups)
     }
@@ -112,7 +118,8 @@ impl Known {
 
 // Gives the state these groups, on one cell.
 fn go_through(state: &mut CellState, groups: &[Group], at: &Area) -> Result<(), AllocError>
-    ensures { OnOk result ((cell : Cell) → IsOnly at.now cell → MayFollow state.old.step groups.now → HasGone cell groups.now (contents_of state.old) (contents_of state.new)) }
+    ensures { OnOk result ((cell : Cell) → IsOnly at.now cell → MayFollow state.old.step groups.now
+        → HasGone cell groups.now (contents_of state.old) (contents_of state.new)) }
 {
     for group in groups {
         state.extend(group, at)?;

@@ -1,5 +1,6 @@
 //! The cells of a resource on a line, and what is known of them.
-ghost use Rattle.std.specs.Prelude.{◌≡◌, [], ◌∷◌, ◌+◌, ◌<◌, ◌≤◌, ◌↔◌, ℕ, All, AllPairs, IfOk, IsTrue, OnOk, length};
+ghost use Rattle.std.specs.Prelude.{◌≡◌, [], ◌∷◌, ◌+◌, ◌<◌, ◌≤◌, ◌↔◌, ℕ, All, AllPairs, IfOk, IsTrue, OnOk};
+ghost use Rattle.std.specs.Prelude.{length};
 ghost use Rattle.sv_model.specs.Cells as cells;
 ghost use Rattle.sv_range.specs.Spans.{EndsBefore};
 ghost use Rattle.sv_range.specs.Lines.{InSome};
@@ -91,8 +92,10 @@ pub fn spans_of(alloc: Global, shape: Shape, area: Area) -> Result<List<Span>, A
     requires { (res size : ℕ) × IsShaped shape size × LiesOn res shape size area }
     ensures ascending { IfOk result (AllPairs EndsBefore) }
     ensures in_mip { IfOk result (All (IsInMip shape)) }
-    ensures inside { (res size : ℕ) → IsShaped shape size → LiesOn res shape size area → IfOk result (All (λ (span : Span). (span.start < span.end) × (span.end ≤ size))) }
-    ensures cells { (res size : ℕ) → IsShaped shape size → LiesOn res shape size area → IfOk result (λ spans. (number : ℕ) → number < size
+    ensures inside { (res size : ℕ) → IsShaped shape size → LiesOn res shape size area
+        → IfOk result (All (λ (span : Span). (span.start < span.end) × (span.end ≤ size))) }
+    ensures cells { (res size : ℕ) → IsShaped shape size → LiesOn res shape size area
+        → IfOk result (λ spans. (number : ℕ) → number < size
         → InSome spans number ↔ IsTrue (cells.covers area (cell_on res shape number))) }
 {
     match (area, shape) {
@@ -119,7 +122,8 @@ impl Line {
         requires some { 0 < size }
         requires shaped { IsShaped shape size }
         ensures fresh { IfOk result IsFresh }
-        ensures resource { IfOk result (λ line. (line.res ≡ res) × (line.shape ≡ shape) × (line.pieces.size ≡ size)) }
+        ensures resource { IfOk result (λ line. (line.res ≡ res) × (line.shape ≡ shape)
+            × (line.pieces.size ≡ size)) }
     {
         let pieces = RangeMap::new(alloc, size, Known::new(alloc))?;
         Ok(Line { res, shape, pieces })
@@ -132,12 +136,18 @@ impl Line {
         ensures line { IsSameLine self.old self.new }
         ensures spans { HaveSameSpans self.old.pieces.parts.items self.new.pieces.parts.items }
         ensures within { AreWithin (length log.now) self.new.pieces.parts.items }
-        ensures others { (k : ℕ) (d : Part Known) → k ≢ index → slice_index_or self.new.pieces.parts.items k d ≡ slice_index_or self.old.pieces.parts.items k d }
-        ensures caught { OnOk result ((work : List Step) (d : Part Known) → AreNumbered work → log.now ≡ groups_in work
+        ensures others { (k : ℕ) (d : Part Known) → k ≢ index
+            → slice_index_or self.new.pieces.parts.items k d
+            ≡ slice_index_or self.old.pieces.parts.items k d }
+        ensures caught { OnOk result ((work : List Step) (d : Part Known) → AreNumbered work → log.now
+            ≡ groups_in work
             → IsPieceOf work self.old.res self.old.shape (slice_index_or self.old.pieces.parts.items index d)
-            → IsPieceOf work self.old.res self.old.shape (slice_index_or self.new.pieces.parts.items index d)) }
-        ensures upto { OnOk result ((d : Part Known) → (slice_index_or self.new.pieces.parts.items index d).value.upto ≡ length log.now) }
-        ensures given { IfOk result (λ given. (d : Part Known) → given + (slice_index_or self.old.pieces.parts.items index d).value.upto ≡ length log.now) }
+            → IsPieceOf work self.old.res self.old.shape
+            (slice_index_or self.new.pieces.parts.items index d)) }
+        ensures upto { OnOk result ((d : Part Known)
+            → (slice_index_or self.new.pieces.parts.items index d).value.upto ≡ length log.now) }
+        ensures given { IfOk result (λ given. (d : Part Known) → given
+            + (slice_index_or self.old.pieces.parts.items index d).value.upto ≡ length log.now) }
     {
         let (span, _) = self.pieces.piece(index);
         let at = area_of(self.res, self.shape, first_cell(span));
@@ -160,12 +170,17 @@ impl Line {
         ensures spans { HaveSameSpans self.old.pieces.parts.items self.new.pieces.parts.items }
         ensures within { AreWithin (length log.now) self.new.pieces.parts.items }
         ensures stands { OnOk result ((work : List Step) → AreNumbered work → log.now ≡ groups_in work
-            → IsLineOf work self.old.res self.old.shape self.old.pieces.parts.items → IsLineOf work self.old.res self.old.shape self.new.pieces.parts.items) }
-        ensures later { OnOk result (ArePartsLater (length log.now) self.new.pieces.parts.items self.old.pieces.parts.items) }
-        ensures caught { OnOk result ((k : ℕ) (d : Part Known) → Contains places.now k → (slice_index_or self.new.pieces.parts.items k d).value.upto ≡ length log.now) }
+            → IsLineOf work self.old.res self.old.shape self.old.pieces.parts.items
+            → IsLineOf work self.old.res self.old.shape self.new.pieces.parts.items) }
+        ensures later { OnOk result (ArePartsLater
+            (length log.now) self.new.pieces.parts.items self.old.pieces.parts.items) }
+        ensures caught { OnOk result ((k : ℕ) (d : Part Known) → Contains places.now k
+            → (slice_index_or self.new.pieces.parts.items k d).value.upto ≡ length log.now) }
         ensures others { OnOk result ((k : ℕ) (d : Part Known) → (Contains places.now k → ⊥)
-            → slice_index_or self.new.pieces.parts.items k d ≡ slice_index_or self.old.pieces.parts.items k d) }
-        ensures none { IfOk result (λ given. ((k : ℕ) (d : Part Known) → Contains places.now k → (slice_index_or self.old.pieces.parts.items k d).value.upto ≡ length log.now) → given ≡ 0) }
+            → slice_index_or self.new.pieces.parts.items k d
+            ≡ slice_index_or self.old.pieces.parts.items k d) }
+        ensures none { IfOk result (λ given. ((k : ℕ) (d : Part Known) → Contains places.now k
+            → (slice_index_or self.old.pieces.parts.items k d).value.upto ≡ length log.now) → given ≡ 0) }
     {
         let mut given = 0u64;
         for place in places {
@@ -175,21 +190,26 @@ impl Line {
         Ok(given)
     }
 
-    /// Makes pieces begin and end where the area does, gives those inside the groups that they lack, and tells how
-    /// many those were.
+    /// Makes pieces begin and end where the area does, gives those inside the groups that they lack, and
+    /// tells how many those were.
     pub fn prepare(&mut self, alloc: Global, log: &[Group], area: Area) -> Result<u64, AllocError>
         requires lies { LiesOn self.old.res self.old.shape self.old.pieces.size area }
         requires within { AreWithin (length log.now) self.old.pieces.parts.items }
         ensures line { IsSameLine self.old self.new }
         ensures within { AreWithin (length log.now) self.new.pieces.parts.items }
         ensures stands { OnOk result ((work : List Step) → AreNumbered work → log.now ≡ groups_in work
-            → IsLineOf work self.old.res self.old.shape self.old.pieces.parts.items → IsLineOf work self.old.res self.old.shape self.new.pieces.parts.items) }
-        ensures later { OnOk result (ArePartsLater (length log.now) self.new.pieces.parts.items self.old.pieces.parts.items) }
+            → IsLineOf work self.old.res self.old.shape self.old.pieces.parts.items
+            → IsLineOf work self.old.res self.old.shape self.new.pieces.parts.items) }
+        ensures later { OnOk result (ArePartsLater
+            (length log.now) self.new.pieces.parts.items self.old.pieces.parts.items) }
         ensures cut { OnOk result (IsCutFor area self.old.res self.old.shape self.new.pieces.parts.items) }
-        ensures caught { OnOk result (IsCaughtFor area (length log.now) self.old.res self.old.shape self.new.pieces.parts.items) }
-        ensures others { OnOk result ((at : Area) (n : ℕ) → AreApart area at → IsCaughtFor at n self.old.res self.old.shape self.old.pieces.parts.items
+        ensures caught { OnOk result (IsCaughtFor area
+            (length log.now) self.old.res self.old.shape self.new.pieces.parts.items) }
+        ensures others { OnOk result ((at : Area) (n : ℕ) → AreApart area at
+            → IsCaughtFor at n self.old.res self.old.shape self.old.pieces.parts.items
             → IsCaughtFor at n self.old.res self.old.shape self.new.pieces.parts.items) }
-        ensures none { IfOk result (λ given. IsCaughtFor area (length log.now) self.old.res self.old.shape self.old.pieces.parts.items → given ≡ 0) }
+        ensures none { IfOk result (λ given. IsCaughtFor area
+            (length log.now) self.old.res self.old.shape self.old.pieces.parts.items → given ≡ 0) }
     {
         cut(alloc, self, area)?;
         let places = places_of(alloc, self, area)?;

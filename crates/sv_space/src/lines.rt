@@ -1,12 +1,15 @@
 //! All lines: the line of an area, and what is done to its pieces.
-ghost use Rattle.std.specs.Prelude.{◌≡◌, ◌<◌, ◌≤◌, ℕ, Contains, IfOk, List, OnOk, Some, length, slice_index_or};
+ghost use Rattle.std.specs.Prelude.{◌≡◌, ◌<◌, ◌≤◌, ℕ, Contains, IfOk, List, OnOk, Some, length};
+ghost use Rattle.std.specs.Prelude.{slice_index_or};
 ghost use Rattle.sv_model.specs.Cells.{area_resource};
 ghost use Rattle.sv_model.specs.Reports.{AreNumbered};
 ghost use Rattle.sv_model.specs.declared.work.Access.{Access};
 ghost use Rattle.sv_model.specs.declared.work.Area.{Area};
 ghost use Rattle.sv_model.specs.declared.work.Dep.{Dep};
 ghost use Rattle.sv_model.specs.declared.work.Step.{Step};
-ghost use Rattle.sv_space.specs.AllLines.{AreAllCaught, AreAllCut, AreAllLater, AreAllPartsOf, AreAllWithin, AreLinesOf, AreSameLines, IsRangeOf, LieIn, LiesAt, LiesIn};
+ghost use Rattle.sv_space.specs.AllLines.{AreAllCaught, AreAllCut, AreAllLater, AreAllPartsOf};
+ghost use Rattle.sv_space.specs.AllLines.{AreAllWithin, AreLinesOf, AreSameLines, IsRangeOf, LieIn, LiesAt};
+ghost use Rattle.sv_space.specs.AllLines.{LiesIn};
 ghost use Rattle.sv_space.specs.Cut.{AreApart};
 ghost use Rattle.sv_space.specs.Known.{groups_in};
 ghost use Rattle.sv_space.specs.Sorted.{AreSorted, IsPlaceOf};
@@ -66,11 +69,13 @@ fn prepare_area(
     requires within { AreAllWithin (length log.now) lines.old.items }
     ensures same { AreSameLines lines.old.items lines.new.items }
     ensures within { AreAllWithin (length log.now) lines.new.items }
-    ensures stands { OnOk result ((work : List Step) → AreNumbered work → log.now ≡ groups_in work → AreLinesOf work lines.old.items → AreLinesOf work lines.new.items) }
+    ensures stands { OnOk result ((work : List Step) → AreNumbered work → log.now ≡ groups_in work
+        → AreLinesOf work lines.old.items → AreLinesOf work lines.new.items) }
     ensures later { OnOk result (AreAllLater (length log.now) lines.new.items lines.old.items) }
     ensures cut { OnOk result (AreAllCut area lines.new.items) }
     ensures caught { OnOk result (AreAllCaught area (length log.now) lines.new.items) }
-    ensures others { OnOk result ((at : Area) (n : ℕ) → AreApart area at → AreAllCaught at n lines.old.items → AreAllCaught at n lines.new.items) }
+    ensures others { OnOk result ((at : Area) (n : ℕ) → AreApart area at → AreAllCaught at n lines.old.items
+        → AreAllCaught at n lines.new.items) }
     ensures none { IfOk result (λ given. AreAllCaught area (length log.now) lines.old.items → given ≡ 0) }
 {
     let at = place_of(lines, area);
@@ -90,12 +95,16 @@ pub fn prepare(
     requires within { AreAllWithin (length log.now) lines.old.items }
     ensures same { AreSameLines lines.old.items lines.new.items }
     ensures within { AreAllWithin (length log.now) lines.new.items }
-    ensures stands { OnOk result ((work : List Step) → AreNumbered work → log.now ≡ groups_in work → AreLinesOf work lines.old.items → AreLinesOf work lines.new.items) }
+    ensures stands { OnOk result ((work : List Step) → AreNumbered work → log.now ≡ groups_in work
+        → AreLinesOf work lines.old.items → AreLinesOf work lines.new.items) }
     ensures cut { OnOk result ((x : Access) → Contains accesses.now x → AreAllCut x.area lines.new.items) }
-    ensures caught { OnOk result ((x : Access) → Contains accesses.now x → AreAllCaught x.area (length log.now) lines.new.items) }
-    ensures others { OnOk result ((at : Area) (n : ℕ) → ((x : Access) → Contains accesses.now x → AreApart x.area at)
+    ensures caught { OnOk result ((x : Access) → Contains accesses.now x
+        → AreAllCaught x.area (length log.now) lines.new.items) }
+    ensures others { OnOk result ((at : Area) (n : ℕ)
+        → ((x : Access) → Contains accesses.now x → AreApart x.area at)
         → AreAllCaught at n lines.old.items → AreAllCaught at n lines.new.items) }
-    ensures none { IfOk result (λ given. ((x : Access) → Contains accesses.now x → AreAllCaught x.area (length log.now) lines.old.items) → given ≡ 0) }
+    ensures none { IfOk result (λ given. ((x : Access) → Contains accesses.now x
+        → AreAllCaught x.area (length log.now) lines.old.items) → given ≡ 0) }
 {
     let mut given = 0u64;
     for access in accesses {
@@ -134,10 +143,12 @@ fn cut_range(alloc: Global, lines: &mut Vec<Line>, range: Option<Area>) -> Resul
 // The pieces of what the dependencies of a group are limited to are cut.
 fn cut_group(alloc: Global, lines: &mut Vec<Line>, group: &Group) -> Result<(), AllocError>
     requires sorted { AreSorted lines.old.items }
-    requires lies { (d : Dep) (area : Area) → Contains group.now.deps d → d.range ≡ Some area → LiesIn lines.old.items area }
+    requires lies { (d : Dep) (area : Area) → Contains group.now.deps d → d.range ≡ Some area
+        → LiesIn lines.old.items area }
     ensures same { AreSameLines lines.old.items lines.new.items }
     ensures parts { AreAllPartsOf lines.new.items lines.old.items }
-    ensures cut { OnOk result ((d : Dep) (area : Area) → Contains group.now.deps d → d.range ≡ Some area → AreAllCut area lines.new.items) }
+    ensures cut { OnOk result ((d : Dep) (area : Area) → Contains group.now.deps d → d.range ≡ Some area
+        → AreAllCut area lines.new.items) }
 {
     let deps = group.deps.as_slice();
     for dep in deps {

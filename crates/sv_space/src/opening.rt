@@ -1,5 +1,6 @@
 //! The lines of the resources of a trace.
-ghost use Rattle.std.specs.Prelude.{◌≡◌, ◌≢◌, ◌<◌, ◌⊎◌, All, Contains, IfOk, OnOk, Some, false, length, slice_index_or, true};
+ghost use Rattle.std.specs.Prelude.{◌≡◌, ◌≢◌, ◌<◌, ◌⊎◌, All, Contains, IfOk, OnOk, Some, false, length};
+ghost use Rattle.std.specs.Prelude.{slice_index_or, true};
 ghost use Rattle.sv_model.specs.Lawful.{AreOnce, IsLawfulResource, declared_number};
 ghost use Rattle.sv_model.specs.declared.line.Line.{Line as Declared};
 ghost use Rattle.sv_space.specs.AllLines.{AreFresh};
@@ -16,7 +17,8 @@ use sv_model::line::Line as Declared;
 
 // Whether the line at that place is of the resource.
 fn is_there(lines: &[Line], at: usize, res: u32) -> bool
-    ensures absent { result ≡ false → (d : Line) → at < length lines.now → (slice_index_or lines.now at d).res ≢ res }
+    ensures absent { result ≡ false → (d : Line) → at < length lines.now
+        → (slice_index_or lines.now at d).res ≢ res }
     ensures there { result ≡ true → (l : Line) × Contains lines.now l × (l.res ≡ res) }
 {
     if at < lines.len() {
@@ -31,8 +33,10 @@ fn insert(lines: &mut Vec<Line>, line: Line) -> Result<(), AllocError>
     requires sorted { AreSorted lines.old.items }
     requires fresh { IsFresh line }
     ensures kept { OnOk result ((l : Line) → Contains lines.old.items l → Contains lines.new.items l) }
-    ensures only { OnOk result ((l : Line) → Contains lines.new.items l → Contains lines.old.items l ⊎ (l ≡ line)) }
-    ensures has { OnOk result (((l : Line) → Contains lines.old.items l → l.res ≢ line.res) → Contains lines.new.items line) }
+    ensures only { OnOk result ((l : Line) → Contains lines.new.items l → Contains lines.old.items l
+        ⊎ (l ≡ line)) }
+    ensures has { OnOk result (((l : Line) → Contains lines.old.items l → l.res ≢ line.res)
+        → Contains lines.new.items line) }
     ensures sorted { OnOk result (AreSorted lines.new.items) }
     ensures fresh { OnOk result (AreFresh lines.old.items → AreFresh lines.new.items) }
 {
@@ -48,8 +52,10 @@ fn declare(alloc: Global, lines: &mut Vec<Line>, declared: &Declared) -> Result<
     requires lawful { IsLawfulResource declared.now }
     requires sorted { AreSorted lines.old.items }
     ensures kept { OnOk result ((l : Line) → Contains lines.old.items l → Contains lines.new.items l) }
-    ensures only { OnOk result ((l : Line) → Contains lines.new.items l → Contains lines.old.items l ⊎ IsLineFor declared.now l) }
-    ensures has { OnOk result (((l : Line) → Contains lines.old.items l → declared_number declared.now ≢ Some l.res) → HasLineFor lines.new.items declared.now) }
+    ensures only { OnOk result ((l : Line) → Contains lines.new.items l → Contains lines.old.items l
+        ⊎ IsLineFor declared.now l) }
+    ensures has { OnOk result (((l : Line) → Contains lines.old.items l
+        → declared_number declared.now ≢ Some l.res) → HasLineFor lines.new.items declared.now) }
     ensures sorted { OnOk result (AreSorted lines.new.items) }
     ensures fresh { OnOk result (AreFresh lines.old.items → AreFresh lines.new.items) }
 {
@@ -80,7 +86,8 @@ pub fn open_all(alloc: Global, resources: &[Declared]) -> Result<Vec<Line>, Allo
     requires { All IsLawfulResource resources.now }
     ensures sorted { IfOk result (λ lines. AreSorted lines.items) }
     ensures fresh { IfOk result (λ lines. AreFresh lines.items) }
-    ensures has { IfOk result (λ lines. AreOnce resources.now → (d : Declared) → Contains resources.now d → HasLineFor lines.items d) }
+    ensures has { IfOk result (λ lines. AreOnce resources.now → (d : Declared) → Contains resources.now d
+        → HasLineFor lines.items d) }
 {
     let mut lines = Vec::new(alloc);
     for declared in resources {

@@ -1,5 +1,6 @@
 //! The places of the pieces of an area.
-ghost use Rattle.std.specs.Prelude.{◌≡◌, ◌++◌, ◌+◌, ◌-◌, ◌<◌, ◌≤◌, ◌⊎◌, ℕ, IfOk, List, OnOk, length, slice_index_or};
+ghost use Rattle.std.specs.Prelude.{◌≡◌, ◌++◌, ◌+◌, ◌-◌, ◌<◌, ◌≤◌, ◌⊎◌, ℕ, IfOk, List, OnOk, length};
+ghost use Rattle.std.specs.Prelude.{slice_index_or};
 ghost use Rattle.std.specs.List.{range_with_len};
 ghost use Rattle.sv_range.specs.declared.span.Span.{Span};
 ghost use Rattle.sv_space.specs.Cut.{ArePlacesOf};
@@ -29,7 +30,8 @@ fn push_numbers(list: &mut Vec<usize>, from: usize, end: usize) -> Result<(), Al
     Ok(())
 }
 
-// Adds the places, from `next` on, of the pieces with cells of a span, and tells from where on there may be others.
+// Adds the places, from `next` on, of the pieces with cells of a span, and tells from where on there may be
+// others.
 fn add_places(
     places: &mut Vec<usize>,
     line: &Line,
@@ -38,7 +40,8 @@ fn add_places(
 ) -> Result<usize, AllocError>
     requires order { span.start < span.end }
     requires inside { span.end ≤ line.now.pieces.size }
-    ensures { IfOk result (λ after. (spans : List Span) (i : ℕ) → i < length spans → slice_index_or spans i span ≡ span
+    ensures { IfOk result (λ after. (spans : List Span) (i : ℕ) → i < length spans
+        → slice_index_or spans i span ≡ span
         → AreListed line.now.pieces.parts.items spans i next places.old.items
         → AreListed line.now.pieces.parts.items spans (i + 1) after places.new.items) }
 {
@@ -51,7 +54,8 @@ fn add_places(
 /// The places of the pieces that have cells of the area, in order.
 pub fn places_of(alloc: Global, line: &Line, area: Area) -> Result<Vec<usize>, AllocError>
     requires { LiesOn line.now.res line.now.shape line.now.pieces.size area }
-    ensures { IfOk result (λ places. ArePlacesOf area line.now.res line.now.shape line.now.pieces.parts.items places.items) }
+    ensures { IfOk result (λ places. ArePlacesOf area line.now.res line.now.shape
+        line.now.pieces.parts.items places.items) }
 {
     let mut places = Vec::new(alloc);
     let mut next = 0;

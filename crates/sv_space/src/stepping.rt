@@ -30,7 +30,8 @@ fn races(state: &CellState, accesses: &[Access], groups: &[Group]) -> bool
 // The epoch begins anew where an access raced.
 fn restart_if(state: &mut CellState, raced: bool)
     ensures step { state.new.step ≡ state.old.step }
-    ensures kept { raced ≡ false → (story : Story) (epoch : ℕ) → StandsFor story epoch state.old → StandsFor story epoch state.new }
+    ensures kept { raced ≡ false → (story : Story) (epoch : ℕ) → StandsFor story epoch state.old
+        → StandsFor story epoch state.new }
     ensures restarts { raced ≡ true → (story : Story) (epoch next : ℕ) → StandsFor story epoch state.old
         → ((a : Access) → Contains story.accesses a → a.step < next) → StandsFor story next state.new }
 {
@@ -48,7 +49,9 @@ pub fn record_on(
     groups: &[Group],
 ) -> Result<(), AllocError>
     requires { HaveOwnGroups groups.now accesses.now }
-    ensures { OnOk result ((raced : Bool) × (mid : Contents) × IsRecording (own_of groups.now) (on_cell cell accesses.now) raced (contents_of state.old) mid (contents_of state.new)) }
+    ensures { OnOk result ((raced : Bool) × (mid : Contents)
+        × IsRecording (own_of groups.now) (on_cell cell accesses.now) raced (contents_of state.old) mid
+        (contents_of state.new)) }
 {
     let list = on_cell(alloc, accesses, cell)?;
     let here = list.as_slice();

@@ -1,10 +1,12 @@
 //! What a step reports, and what is recorded of it.
-ghost use Rattle.std.specs.Prelude.{◌≡◌, [], ◌∷◌, ◌++◌, ◌<◌, ◌≤◌, ℕ, Contains, IfOk, List, OnOk, length, slice_index_or};
+ghost use Rattle.std.specs.Prelude.{◌≡◌, [], ◌∷◌, ◌++◌, ◌<◌, ◌≤◌, ℕ, Contains, IfOk, List, OnOk, length};
+ghost use Rattle.std.specs.Prelude.{slice_index_or};
 ghost use Rattle.sv_model.specs.Reports.{AreReportsFrom, spots_of};
 ghost use Rattle.sv_model.specs.declared.work.Access.{Access};
 ghost use Rattle.sv_model.specs.declared.work.Area.{Area};
 ghost use Rattle.sv_model.specs.declared.work.Step.{Step};
-ghost use Rattle.sv_space.specs.AllLines.{AreAllCaught, AreAllCut, AreAllWithin, AreLinesOf, AreSameLines, IsRangeOf, LieIn};
+ghost use Rattle.sv_space.specs.AllLines.{AreAllCaught, AreAllCut, AreAllWithin, AreLinesOf, AreSameLines};
+ghost use Rattle.sv_space.specs.AllLines.{IsRangeOf, LieIn};
 ghost use Rattle.sv_space.specs.Known.{groups_in};
 ghost use Rattle.sv_space.specs.Marked.{IsLineMarked, IsStepOf};
 ghost use Rattle.sv_space.specs.Own.{HaveOwnGroups};
@@ -34,8 +36,10 @@ pub fn find_all(
     requires cut { (x : Access) → Contains accesses.now x → AreAllCut x.area lines.now }
     requires own { HaveOwnGroups groups.now accesses.now }
     ensures runs { IfOk result AreRuns }
-    ensures reports { IfOk result (λ reports. (work : List Step) (step : Step) → IsStepOf work step accesses.now groups.now
-        → ((x : Access) → Contains accesses.now x → AreAllCaught x.area (length (groups_in work)) lines.now) → AreLinesOf work lines.now
+    ensures reports { IfOk result (λ reports. (work : List Step) (step : Step)
+        → IsStepOf work step accesses.now groups.now
+        → ((x : Access) → Contains accesses.now x → AreAllCaught x.area (length (groups_in work)) lines.now)
+        → AreLinesOf work lines.now
         → AreReportsFrom (length work) (work ++ step ∷ []) (spots_of reports)) }
 {
     let mut reports = List::new(alloc);
@@ -63,7 +67,9 @@ fn record_one(
     requires own { HaveOwnGroups groups.now accesses.now }
     ensures same { AreSameLines lines.old.items lines.new.items }
     ensures within { (n : ℕ) → AreAllWithin n lines.old.items → AreAllWithin n lines.new.items }
-    ensures marked { OnOk result ((k : ℕ) (d : Line) → k < length lines.old.items → IsLineMarked accesses.now groups.now number (slice_index_or lines.old.items k d) (slice_index_or lines.new.items k d)) }
+    ensures marked { OnOk result ((k : ℕ) (d : Line) → k < length lines.old.items
+        → IsLineMarked accesses.now groups.now number (slice_index_or lines.old.items k d)
+        (slice_index_or lines.new.items k d)) }
 {
     let at = place_of(lines, accesses[number].area);
     let line = &mut lines[at];
@@ -83,11 +89,14 @@ pub fn record_all(
     requires own { HaveOwnGroups groups.now accesses.now }
     ensures same { AreSameLines lines.old.items lines.new.items }
     ensures within { (n : ℕ) → AreAllWithin n lines.old.items → AreAllWithin n lines.new.items }
-    ensures stands { OnOk result ((work : List Step) (step : Step) → IsStepOf work step accesses.now groups.now
-        → ((x : Access) → Contains accesses.now x → AreAllCaught x.area (length (groups_in work)) lines.old.items)
+    ensures stands { OnOk result ((work : List Step) (step : Step)
+        → IsStepOf work step accesses.now groups.now
+        → ((x : Access) → Contains accesses.now x
+        → AreAllCaught x.area (length (groups_in work)) lines.old.items)
         → ((area : Area) → IsRangeOf groups.now area → AreAllCut area lines.old.items)
         → AreLinesOf work lines.old.items → AreLinesOf (work ++ step ∷ []) lines.new.items) }
-    ensures upto { OnOk result ((at : Area) (n : ℕ) → AreAllCaught at n lines.old.items → AreAllCaught at n lines.new.items) }
+    ensures upto { OnOk result ((at : Area) (n : ℕ) → AreAllCaught at n lines.old.items
+        → AreAllCaught at n lines.new.items) }
 {
     for number in 0..accesses.len() {
         record_one(alloc, lines, accesses, groups, number)?;

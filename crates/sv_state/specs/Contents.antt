@@ -22,4 +22,9 @@ abbrev pub item_of : Entry → Item
 item_of e = record { access = e.access; settled = masks_of e.reached.settled; fresh = e.reached.fresh.items }
 
 abbrev pub contents_of : CellState → Contents
-contents_of state = record { written = map item_of state.written.items; alike = state.alike; reads = map item_of state.reads.items; step = state.step }
+contents_of state = record {
+  written = map item_of state.written.items;
+  alike = state.alike;
+  reads = map item_of state.reads.items;
+  step = state.step;
+}

@@ -1,4 +1,8 @@
 //! The state of one cell: the accesses of its epoch, and what dependency chains reach from each.
+//!
+//! - knows one cell: no range, no queue, no other cell
+//! - definitions: `Dependencies`, `Order`, `Kept` of `sv_model`; `States` says what is kept
+//! - used by `sv_space`
 #![tactic(auto)]
 
 mod copying;

@@ -1,9 +1,11 @@
 //! What dependency chains from one access reach.
-ghost use Rattle.std.specs.Prelude.{◌≡◌, [], ◌∷◌, ◌++◌, ◌<◌, ◌≤◌, ℕ, IsTrue, ◌↔◌, ◌⊎◌, IfOk, OnOk, List, Contains};
+ghost use Rattle.std.specs.Prelude.{◌≡◌, [], ◌∷◌, ◌++◌, ◌<◌, ◌≤◌, ℕ, IsTrue, ◌↔◌, ◌⊎◌, IfOk, OnOk, List};
+ghost use Rattle.std.specs.Prelude.{Contains};
 ghost use Rattle.sv_mask.specs.Sets.{Has};
 ghost use Rattle.sv_model.specs.Cells.{Within};
-ghost use Rattle.sv_model.specs.Chain.{Placed, IsOwn, InFirst, Starts, StartsByUse, Enters, Chain, placed};
-ghost use Rattle.sv_model.specs.Chain as chain;
+ghost use Rattle.sv_model.specs.Dependencies.{Placed, IsOwn, InFirst, Starts, StartsByUse, Enters, Chain};
+ghost use Rattle.sv_model.specs.Dependencies.{placed};
+ghost use Rattle.sv_model.specs.Dependencies as chain;
 ghost use Rattle.sv_model.specs.declared.work.Access.{Access};
 ghost use Rattle.sv_model.specs.declared.work.Cell.{Cell};
 ghost use Rattle.sv_model.specs.declared.work.What.{What};
@@ -84,7 +86,7 @@ fn starts(a: &Access, group: &Group, d: &Dep, held: bool) -> bool
 }
 
 impl Reached {
-    ghost use Rattle.sv_model.specs.Chain.{AllAlike, Alike, Ends, EndsByUse, Path, UpTo};
+    ghost use Rattle.sv_model.specs.Dependencies.{AllAlike, Alike, Ends, EndsByUse, Path, UpTo};
 
     /// Nothing is reached yet.
     pub fn new(alloc: Global) -> Reached
@@ -111,7 +113,8 @@ impl Reached {
     /// through.
     pub fn reaches_use(&self, a: &Access, x: &Access, u: Usage) -> bool
         requires { x.now.what ≡ What.Use u }
-        ensures { (cell : Cell) (deps : List Placed) (step : ℕ) → ((d : Placed) → Contains deps d → d.group.step < x.now.step)
+        ensures { (cell : Cell) (deps : List Placed) (step : ℕ)
+            → ((d : Placed) → Contains deps d → d.group.step < x.now.step)
             → Stands cell a.now deps step self.now → IsTrue result ↔ Chain deps cell a.now x.now }
     {
         let write = writes(a.what);
@@ -132,7 +135,8 @@ impl Reached {
 
     /// Whether a chain from the access goes into this dependency of a group of the present step.
     fn enters(&self, a: &Access, group: &Group, d: &Dep, held: bool) -> bool
-        ensures { (cell : Cell) → IsTrue held ↔ Within d.now.range cell → (deps : List Placed) → Stands cell a.now deps group.now.step self.now
+        ensures { (cell : Cell) → IsTrue held ↔ Within d.now.range cell → (deps : List Placed)
+            → Stands cell a.now deps group.now.step self.now
             → IsTrue result ↔ Enters deps (Starts cell a.now) (record { group = group.now; dep = d.now }) }
     {
         let first = starts(a, group, d, held);
@@ -142,8 +146,10 @@ impl Reached {
 
     /// Goes through one dependency of a group of the present step.
     fn take_dep(&mut self, a: &Access, group: &Group, d: &Dep, held: bool) -> Result<(), AllocError>
-        ensures { OnOk result ((cell : Cell) → IsTrue held ↔ Within d.now.range cell → (deps : List Placed) → Stands cell a.now deps group.now.step self.old
-            → Stands cell a.now (deps ++ record { group = group.now; dep = d.now } ∷ []) group.now.step self.new) }
+        ensures { OnOk result ((cell : Cell) → IsTrue held ↔ Within d.now.range cell → (deps : List Placed)
+            → Stands cell a.now deps group.now.step self.old
+            → Stands cell a.now (deps ++ record { group = group.now; dep = d.now } ∷ []) group.now.step
+            self.new) }
     {
         if self.enters(a, group, d, held) {
             add(&mut self.fresh, mask_of(d, held))?;
@@ -153,7 +159,8 @@ impl Reached {
 
     /// Goes through the dependencies of a group of the present step, on a cell.
     pub fn extend(&mut self, a: &Access, group: &Group, at: Cell) -> Result<(), AllocError>
-        ensures { OnOk result ((cell : Cell) → AllAlike group.now at cell → (deps : List Placed) → Stands cell a.now deps group.now.step self.old
+        ensures { OnOk result ((cell : Cell) → AllAlike group.now at cell → (deps : List Placed)
+            → Stands cell a.now deps group.now.step self.old
             → Stands cell a.now (deps ++ placed group.now) group.now.step self.new) }
     {
         for d in group.deps.as_slice() {
@@ -165,7 +172,8 @@ impl Reached {
 
     /// Whether d may follow what is reached by whichever step.
     fn leads(&self, d: &Dep) -> bool
-        ensures { IsTrue result ↔ (LeadsInto (masks_of self.now.settled) d.now ⊎ LeadsInto self.now.fresh.items d.now) }
+        ensures { IsTrue result ↔ (LeadsInto (masks_of self.now.settled) d.now
+            ⊎ LeadsInto self.now.fresh.items d.now) }
     {
         let earlier = self.settled.leads_into(d);
         let now = leads_into(&self.fresh, d);
@@ -176,7 +184,8 @@ impl Reached {
     /// range holds the cell.
     fn enters_later(&self, a: &Access, group: &Group, d: &Dep) -> bool
         ensures { (cell : Cell) (deps : List Placed) (step : ℕ) → Within d.now.range cell
-            → ((e : Placed) → Contains deps e → e.group.step < group.now.step) → Stands cell a.now deps step self.now
+            → ((e : Placed) → Contains deps e → e.group.step < group.now.step)
+            → Stands cell a.now deps step self.now
             → IsTrue result ↔ Enters deps (Starts cell a.now) (record { group = group.now; dep = d.now }) }
     {
         let first = starts(a, group, d, true);
@@ -188,8 +197,10 @@ impl Reached {
     pub fn reaches_own(&self, a: &Access, x: &Access, group: &Group) -> bool
         requires transition { x.now.what ≡ What.Transition }
         requires own { IsOwn x.now group.now }
-        ensures { (cell : Cell) (deps : List Placed) (step : ℕ) → ((d : Placed) → Contains deps d → d.group.step < x.now.step)
-            → ((d : Placed) → Contains (placed group.now) d → Within d.dep.range cell) → Stands cell a.now deps step self.now
+        ensures { (cell : Cell) (deps : List Placed) (step : ℕ)
+            → ((d : Placed) → Contains deps d → d.group.step < x.now.step)
+            → ((d : Placed) → Contains (placed group.now) d → Within d.dep.range cell)
+            → Stands cell a.now deps step self.now
             → IsTrue result ↔ Chain (deps ++ placed group.now) cell a.now x.now }
     {
         for d in group.deps.as_slice() {

@@ -1,10 +1,12 @@
 //! The state of a cell.
-ghost use Rattle.std.specs.Prelude.{◌≡◌, [], ◌++◌, ◌<◌, ◌≤◌, ◌+◌, ◌*◌, true, ℕ, List, length, IsTrue, Contains, IfSome, MatchOption, OnOk, IfErr, IfOk};
+ghost use Rattle.std.specs.Prelude.{◌≡◌, [], ◌++◌, ◌<◌, ◌≤◌, ◌+◌, ◌*◌, true, ℕ, List, length, IsTrue};
+ghost use Rattle.std.specs.Prelude.{Contains, IfSome, MatchOption, OnOk, IfErr, IfOk};
 ghost use Rattle.std.specs.Option.{option_copied};
 ghost use Rattle.sv_model.specs.Cells.{covers, IsOnly};
-ghost use Rattle.sv_model.specs.Chain.{Placed, IsOwn, own_deps, writes};
+ghost use Rattle.sv_model.specs.Dependencies.{Placed, IsOwn, own_deps, writes};
 ghost use Rattle.sv_model.specs.Composition.{AreChained, IsLatestUnchained, IsWithoutScopes};
-ghost use Rattle.sv_model.specs.Order.{Story, IsClear, IsPartner, NoRaces, IsBelow, extended, recorded, kind_of};
+ghost use Rattle.sv_model.specs.Order.{Story, IsClear, IsPartner, NoRaces, IsBelow, extended, recorded};
+ghost use Rattle.sv_model.specs.Order.{kind_of};
 ghost use Rattle.sv_model.specs.declared.work.Access.{Access};
 ghost use Rattle.sv_model.specs.declared.work.Cell.{Cell};
 
@@ -46,14 +48,17 @@ fn cell_of(at: &Area) -> Cell
 }
 
 impl CellState {
-    ghost use Rattle.sv_state.specs.States.{StandsFor, IsBounded, SomeWrites, AreNext, HasComeTo, HasGrown, RangesHold, AreLikeLast, IsEarlier, EachStands, AllDirected, IsLastUndirected};
+    ghost use Rattle.sv_state.specs.States.{StandsFor, IsBounded, SomeWrites, AreNext, HasComeTo, HasGrown};
+    ghost use Rattle.sv_state.specs.States.{RangesHold, AreLikeLast, IsEarlier, EachStands, AllDirected};
+    ghost use Rattle.sv_state.specs.States.{IsLastUndirected};
     ghost use Rattle.sv_state.specs.States as spec;
     ghost use Rattle.sv_state.specs.Contents.{contents_of};
 
     /// The state of a cell before any work. It takes no memory.
     pub fn new(alloc: Global) -> CellState
         ensures step { result.step ≡ 0 }
-        ensures stands { (cell : Cell) → StandsFor (record { cell = cell; accesses = []; deps = [] }) 0 result }
+        ensures stands { (cell : Cell) → StandsFor
+            (record { cell = cell; accesses = []; deps = [] }) 0 result }
     {
         CellState {
             written: Vec::new(alloc),
@@ -82,7 +87,8 @@ impl CellState {
     /// queue at most one read of each of the 17 stages.
     pub fn kept(&self) -> usize
         ensures number { result ≡ length (spec.entries_of self.now) }
-        ensures few { (story : Story) (epoch : ℕ) (queues : List ℕ) (most : ℕ) → StandsFor story epoch self.now → IsBounded story.accesses queues most
+        ensures few { (story : Story) (epoch : ℕ) (queues : List ℕ) (most : ℕ)
+            → StandsFor story epoch self.now → IsBounded story.accesses queues most
             → result ≤ most + 17 * length queues }
     {
         self.written.len() + self.reads.len()
@@ -94,17 +100,21 @@ impl CellState {
     pub fn check(&self, access: &Access, group: Option<&Group>) -> Option<Partner>
         requires own { IfSome group (λ g. IsOwn access.now g.now) }
         requires held { IfSome group (λ g. RangesHold g.now access.now.area) }
-        ensures partner { (story : Story) (epoch : ℕ) → StandsFor story epoch self.now → NoRaces story epoch → IsBelow access.now.step story
+        ensures partner { (story : Story) (epoch : ℕ) → StandsFor story epoch self.now → NoRaces story epoch
+            → IsBelow access.now.step story
             → IsTrue (covers access.now.area story.cell)
             → MatchOption result
             (IsClear (extended story (own_deps (option_copied group.entry))) epoch access.now)
             (λ p. IsPartner (extended story (own_deps (option_copied group.entry))) epoch access.now p.access
             × (p.kind ≡ kind_of (writes p.access.what) (writes access.now.what))) }
-        ensures chains { (story : Story) (epoch : ℕ) → StandsFor story epoch self.now → NoRaces story epoch → IsBelow access.now.step story
-            → IsTrue (covers access.now.area story.cell) → IsWithoutScopes (extended story (own_deps (option_copied group.entry)))
+        ensures chains { (story : Story) (epoch : ℕ) → StandsFor story epoch self.now → NoRaces story epoch
+            → IsBelow access.now.step story
+            → IsTrue (covers access.now.area story.cell)
+            → IsWithoutScopes (extended story (own_deps (option_copied group.entry)))
             → MatchOption result
             (AreChained (extended story (own_deps (option_copied group.entry))) epoch access.now)
-            (λ p. IsLatestUnchained (extended story (own_deps (option_copied group.entry))) epoch access.now p.access) }
+            (λ p. IsLatestUnchained (extended story (own_deps (option_copied group.entry))) epoch access.now
+            p.access) }
     {
         match last_racing(&self.reads, access, group) {
             Some(partner) => Some(partner),
@@ -116,11 +126,15 @@ impl CellState {
     /// order tells.
     fn racing_written(&self, access: &Access, group: Option<&Group>) -> Option<Partner>
         requires { IfSome group (λ g. IsOwn access.now g.now) }
-        ensures { (self.now.alike ≡ true → AreLikeLast self.now.written.items) → (cell : Cell) (deps : List Placed) (step : ℕ)
-            → IsEarlier deps cell access.now (option_copied group.entry) → EachStands cell deps step self.now.written.items
+        ensures { (self.now.alike ≡ true → AreLikeLast self.now.written.items)
+            → (cell : Cell) (deps : List Placed) (step : ℕ)
+            → IsEarlier deps cell access.now (option_copied group.entry)
+            → EachStands cell deps step self.now.written.items
             → MatchOption result
-            (AllDirected (deps ++ own_deps (option_copied group.entry)) cell access.now self.now.written.items)
-            (λ p. IsLastUndirected (deps ++ own_deps (option_copied group.entry)) cell access.now self.now.written.items p.access
+            (AllDirected (deps ++ own_deps (option_copied group.entry)) cell access.now
+            self.now.written.items)
+            (λ p. IsLastUndirected (deps ++ own_deps (option_copied group.entry)) cell access.now
+            self.now.written.items p.access
             × (p.kind ≡ kind_of (writes p.access.what) (writes access.now.what))) }
     {
         if self.alike {
@@ -134,7 +148,8 @@ impl CellState {
     fn take_writes(&mut self, accesses: &[Access]) -> Result<(), AllocError>
         requires { SomeWrites accesses.now }
         ensures step { self.new.step ≡ self.old.step }
-        ensures stands { OnOk result ((story : Story) (epoch : ℕ) → AreNext story epoch accesses.now → StandsFor story epoch self.old
+        ensures stands { OnOk result ((story : Story) (epoch : ℕ) → AreNext story epoch accesses.now
+            → StandsFor story epoch self.old
             → StandsFor (recorded story accesses.now) epoch self.new) }
         ensures fault { IfErr result (λ e. self.new ≡ self.old) }
     {
@@ -149,7 +164,8 @@ impl CellState {
     /// Reads of one step come to those that are kept, each in the place of the one with its key.
     fn take_each(&mut self, accesses: &[Access]) -> Result<(), AllocError>
         ensures step { self.new.step ≡ self.old.step }
-        ensures stands { OnOk result (¬ SomeWrites accesses.now → (story : Story) (epoch : ℕ) → AreNext story epoch accesses.now → StandsFor story epoch self.old
+        ensures stands { OnOk result (¬ SomeWrites accesses.now → (story : Story) (epoch : ℕ)
+            → AreNext story epoch accesses.now → StandsFor story epoch self.old
             → StandsFor (recorded story accesses.now) epoch self.new) }
         ensures fault { IfErr result (λ e. spec.entries_of self.new ≡ spec.entries_of self.old) }
     {
@@ -164,7 +180,8 @@ impl CellState {
     fn take_reads(&mut self, accesses: &[Access]) -> Result<(), AllocError>
         requires { ¬ SomeWrites accesses.now }
         ensures step { self.new.step ≡ self.old.step }
-        ensures stands { OnOk result ((story : Story) (epoch : ℕ) → AreNext story epoch accesses.now → StandsFor story epoch self.old
+        ensures stands { OnOk result ((story : Story) (epoch : ℕ) → AreNext story epoch accesses.now
+            → StandsFor story epoch self.old
             → StandsFor (recorded story accesses.now) epoch self.new) }
         ensures fault { IfErr result (λ e. spec.entries_of self.new ≡ spec.entries_of self.old) }
     {
@@ -176,7 +193,8 @@ impl CellState {
     /// Adds the accesses of one step on the cell. Where memory is missing the state is as before.
     pub fn record(&mut self, accesses: &[Access]) -> Result<(), AllocError>
         ensures step { self.new.step ≡ self.old.step }
-        ensures stands { OnOk result ((story : Story) (epoch : ℕ) → AreNext story epoch accesses.now → StandsFor story epoch self.old
+        ensures stands { OnOk result ((story : Story) (epoch : ℕ) → AreNext story epoch accesses.now
+            → StandsFor story epoch self.old
             → StandsFor (recorded story accesses.now) epoch self.new) }
         ensures fault { IfErr result (λ e. spec.entries_of self.new ≡ spec.entries_of self.old) }
     {
@@ -202,7 +220,8 @@ impl CellState {
     /// Goes through the dependencies of a group on one cell. Where memory is missing the state is
     /// only to be dropped.
     pub fn extend(&mut self, group: &Group, at: &Area) -> Result<(), AllocError>
-        ensures { OnOk result ((cell : Cell) → IsOnly at.now cell → self.old.step ≤ group.now.step → HasGrown cell group.now self.old self.new) }
+        ensures { OnOk result ((cell : Cell) → IsOnly at.now cell → self.old.step ≤ group.now.step
+            → HasGrown cell group.now self.old self.new) }
     {
         self.advance(group.step)?;
         let cell = cell_of(at);
@@ -215,7 +234,8 @@ impl CellState {
     pub fn restart(&mut self)
         ensures step { self.new.step ≡ self.old.step }
         ensures none { spec.entries_of self.new ≡ [] }
-        ensures stands { (story : Story) (epoch next : ℕ) → StandsFor story epoch self.old → ((a : Access) → Contains story.accesses a → a.step < next)
+        ensures stands { (story : Story) (epoch next : ℕ) → StandsFor story epoch self.old
+            → ((a : Access) → Contains story.accesses a → a.step < next)
             → StandsFor story next self.new }
     {
         self.written.clear();

@@ -1,4 +1,5 @@
--- What the first four refusals leave of a line: its numbers are within their bounds, and its parts have their forms.
+-- What the first four refusals leave of a line: its numbers are within their bounds, and its parts have
+-- their forms.
 use Rattle.std.specs.Prelude.{ℕ, ◌<◌, ◌≤◌, List, Option, None, Some, All, length}
 use Rattle.sv_model.specs.declared.line.Line.{Line}
 use Rattle.sv_model.specs.declared.line.Line.TheVariants as line
@@ -9,7 +10,8 @@ use Rattle.sv_model.specs.declared.line.PassAttachment.{PassAttachment}
 use Rattle.sv_model.specs.declared.line.PassUse.{PassUse}
 use Rattle.sv_model.specs.declared.line.PassDep.{PassDep}
 use Rattle.sv_model.specs.LawfulParts.{IsNumber, HasItsLayout, HaveImage, AreNumbers}
-use Rattle.sv_model.specs.Lawful.{IsLawfulQueue, IsLawfulResource, IsLawfulEventLine, IsLawfulFence, HasFinalLayout, IsEnd, GoesOn}
+use Rattle.sv_model.specs.Lawful.{IsLawfulQueue, IsLawfulResource, IsLawfulEventLine, IsLawfulFence}
+use Rattle.sv_model.specs.Lawful.{HasFinalLayout, IsEnd, GoesOn}
 
 abbrev pub IsFormedAccess : Declared → Type 0
 IsFormedAccess d = HasItsLayout d.part d.layout
@@ -29,7 +31,8 @@ pub record IsFormedPassDep (subpasses : ℕ) (d : PassDep) : Type 0 where
   pub to : IsEnd subpasses d.to
   pub order : GoesOn d.from d.to
 
-pub record IsFormedPass (number : ℕ) (attachments : List PassAttachment) (subpasses : List (List PassUse)) (deps : List PassDep) : Type 0 where
+pub record IsFormedPass (number : ℕ) (attachments : List PassAttachment) (subpasses : List (List PassUse))
+    (deps : List PassDep) : Type 0 where
   pub bound : IsNumber number
   pub layouts : All HasFinalLayout attachments
   pub some : 1 ≤ length subpasses
@@ -39,7 +42,8 @@ pub record IsFormedPass (number : ℕ) (attachments : List PassAttachment) (subp
 abbrev pub IsFormed : Line → Type 0
 IsFormed (line.Queue queue family lane) = IsLawfulQueue (line.Queue queue family lane)
 IsFormed (line.Buffer res size sharing) = IsLawfulResource (line.Buffer res size sharing)
-IsFormed (line.Image res mips layers initial sharing) = IsLawfulResource (line.Image res mips layers initial sharing)
+IsFormed (line.Image res mips layers initial sharing) =
+    IsLawfulResource (line.Image res mips layers initial sharing)
 IsFormed (line.Semaphore sem kind initial) = IsNumber sem
 IsFormed (line.Event event) = IsLawfulEventLine (line.Event event)
 IsFormed (line.Fence fence signaled) = IsLawfulFence (line.Fence fence signaled)

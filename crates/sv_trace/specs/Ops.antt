@@ -1,7 +1,7 @@
 -- The ops, and the form of each.
 use Rattle.std.specs.Prelude.{ℕ, List, [], ◌∷◌, ◌++◌, Option, codes}
 use Rattle.serde_json.specs.Data.{Data}
-use Rattle.sv_form.specs.declared.found.Found.{Found}
+use Rattle.sv_json.specs.declared.found.Found.{Found}
 use Rattle.sv_mask.specs.Names.{named}
 use Rattle.sv_model.specs.declared.line.Line.{Line}
 use Rattle.sv_trace.specs.Lines as form

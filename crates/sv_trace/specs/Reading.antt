@@ -1,14 +1,16 @@
--- What a line says, and why it is refused: the least of the first four refusals whose sentence holds of the line.
-use Rattle.std.specs.Prelude.{◌≡◌, ℕ, List, Option, None, Some, if◌then◌else◌, Result, Ok, Err, codes, option_and_then, ⊤}
+-- What a line says, and why it is refused: the least of the first four refusals whose sentence holds of the
+-- line.
+use Rattle.std.specs.Prelude.{◌≡◌, ℕ, List, Option, None, Some, if◌then◌else◌, Result, Ok, Err, codes}
+use Rattle.std.specs.Prelude.{option_and_then, ⊤}
 use Rattle.std.specs.Option.{option_map_or}
 use Rattle.std.specs.Str.{is_utf8}
 use Rattle.serde_json.specs.Data.{Data}
 use Rattle.serde_json.specs.Find.{get, as_str}
 use Rattle.serde_json.specs.Read.{read}
-use Rattle.sv_form.specs.declared.found.Found.{Found}
-use Rattle.sv_form.specs.declared.found.Flaw.{Flaw}
-use Rattle.sv_form.specs.declared.found.Flaw.TheVariants as flaw
-use Rattle.sv_form.specs.Form.{found}
+use Rattle.sv_json.specs.declared.found.Found.{Found}
+use Rattle.sv_json.specs.declared.found.Flaw.{Flaw}
+use Rattle.sv_json.specs.declared.found.Flaw.TheVariants as flaw
+use Rattle.sv_json.specs.Form.{found}
 use Rattle.sv_model.specs.declared.line.Line.{Line}
 use Rattle.sv_model.specs.declared.line.Line.TheVariants.{Blank}
 use Rattle.sv_model.specs.declared.refusal.Cause.{Cause}
@@ -43,11 +45,13 @@ cause_of flaw.Fine = None
 -- ---- a line
 
 unfoldable pub line_cause : List ℕ → Option Cause
-line_cause bytes = if is_blank bytes then None else option_map_or (λ d. cause_of (line_form d).flaw) (data_of bytes) (Some BadJson)
+line_cause bytes = if is_blank bytes then None else option_map_or (λ d. cause_of (line_form d).flaw)
+    (data_of bytes) (Some BadJson)
 
 -- the line that the bytes spell, where it has no cause
 unfoldable pub line_of : List ℕ → Line
-line_of bytes = if is_blank bytes then Blank else option_map_or (λ d. (line_form d).value) (data_of bytes) Blank
+line_of bytes = if is_blank bytes then Blank else option_map_or (λ d. (line_form d).value)
+    (data_of bytes) Blank
 
 -- the line where it has no cause, else the refusal with its number and cause
 abbrev pub Answers : Option Cause → Line → ℕ → Result Line Fault → Type 0

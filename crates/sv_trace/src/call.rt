@@ -3,12 +3,12 @@ ghost use Rattle.std.specs.Prelude.{◌≡◌, IfOk};
 ghost use Rattle.serde_json.specs.View.{view};
 ghost use Rattle.sv_trace.specs.Lines as spec;
 
-use crate::batch::BatchPart;
-use crate::number::{Number, Slot};
 use serde_json::Value;
 use std::alloc::{AllocError, Global};
-use sv_form::{Found, list_at, maybe_at, part_at};
+use sv_json::{Found, list_at, maybe_at, part_at};
 use sv_model::line::Line;
+use sv_parts::batch::BatchPart;
+use sv_parts::number::{Number, Slot};
 
 #[tactic(auto, unfolding(crate::specs::Lines::submit_line))]
 pub fn submit(alloc: Global, value: &Value) -> Result<Found<Line>, AllocError>

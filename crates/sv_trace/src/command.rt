@@ -3,14 +3,14 @@ ghost use Rattle.std.specs.Prelude.{◌≡◌, IfOk};
 ghost use Rattle.serde_json.specs.View.{view};
 ghost use Rattle.sv_trace.specs.Lines as spec;
 
-use crate::access::AccessPart;
-use crate::attachment::{AttachmentPart, ViewPart};
-use crate::element::ElementPart;
-use crate::number::{Number, Slot};
 use serde_json::Value;
 use std::alloc::{AllocError, Global};
-use sv_form::{Found, Plain, list_at, part_at};
+use sv_json::{Found, Plain, list_at, part_at};
 use sv_model::line::Line;
+use sv_parts::access::AccessPart;
+use sv_parts::attachment::{AttachmentPart, ViewPart};
+use sv_parts::element::ElementPart;
+use sv_parts::number::{Number, Slot};
 
 #[tactic(auto, unfolding(crate::specs::Lines::begin_line))]
 pub fn begin(value: &Value) -> Found<Line>

@@ -3,12 +3,12 @@ ghost use Rattle.std.specs.Prelude.{◌≡◌};
 ghost use Rattle.serde_json.specs.View.{view};
 ghost use Rattle.sv_trace.specs.Lines as spec;
 
-use crate::name::{FirstLayout, KindName, SharingName};
-use crate::number::{Layers, Mips, Number, Size, Slot, VersionNumber};
 use serde_json::Value;
-use sv_form::{AnyNumber, Found, Truth, maybe_at, or_at, part_at};
+use sv_json::{AnyNumber, Found, Truth, maybe_at, or_at, part_at};
 use sv_mask::Layout;
 use sv_model::line::{Line, Sharing};
+use sv_parts::name::{FirstLayout, KindName, SharingName};
+use sv_parts::number::{Layers, Mips, Number, Size, Slot, VersionNumber};
 
 #[tactic(auto, unfolding(crate::specs::Lines::version_line))]
 pub fn version(value: &Value) -> Found<Line>

@@ -1,7 +1,7 @@
 //! One line of a text.
 ghost use Rattle.std.specs.Prelude.{◌≡◌, ◌≢◌, IfOk, option_map};
 ghost use Rattle.serde_json.specs.View.{view};
-ghost use Rattle.sv_form.specs.Form.{found};
+ghost use Rattle.sv_json.specs.Form.{found};
 ghost use Rattle.sv_trace.specs.Formed.{IsFormed};
 ghost use Rattle.sv_trace.specs.Ops.{form_of};
 ghost use Rattle.sv_trace.specs.Reading.{data_of, op_text, line_form, line_cause, line_of, cause_of, Answers};
@@ -17,7 +17,7 @@ use crate::op::{Op, op_of};
 use crate::render_pass::render_pass;
 use serde_json::Value;
 use std::alloc::{AllocError, Global};
-use sv_form::{Flaw, Found};
+use sv_json::{Flaw, Found};
 use sv_model::line::Line;
 use sv_model::refusal::{Cause, Fault, Refusal};
 

@@ -4,13 +4,13 @@ ghost use Rattle.serde_json.specs.View.{view};
 ghost use Rattle.sv_trace.specs.Lines as spec;
 ghost use Rattle.std.specs.List.{list_all};
 
-use crate::attachment::PassAttachmentPart;
-use crate::number::Number;
-use crate::pass::{PassDepPart, SubpassPart};
 use serde_json::Value;
 use std::alloc::{AllocError, Global};
-use sv_form::{Flaw, Found, Plain, list_at, part_at, unless};
+use sv_json::{Flaw, Found, Plain, list_at, part_at, unless};
 use sv_model::line::{Line, PassAttachment, PassDep, PassUse};
+use sv_parts::attachment::PassAttachmentPart;
+use sv_parts::number::Number;
+use sv_parts::pass::{PassDepPart, SubpassPart};
 use sv_range::List;
 
 fn end_fits(subpasses: usize, end: Option<u32>) -> bool

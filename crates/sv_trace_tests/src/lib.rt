@@ -1,4 +1,9 @@
-//! Lines that are refused, with their numbers, and a line of each op with what it says, and the examples of the document.
+//! Lines that are refused, with their numbers, and a line of each op with what it says, and the examples of
+//! the document.
+//!
+//! - knows lines as texts
+//! - definitions: none: the tests are values
+//! - used by nothing: it only tests
 #![tactic(auto)]
 
 #[cfg(test)]

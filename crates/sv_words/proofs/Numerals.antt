@@ -1,5 +1,6 @@
 -- Words of digits alone are numerals.
-use Rattle.std.proofs.Common.{◌≡◌, ◌≢◌, ◌≤◌, ◌<◌, ℕ, Bool, true, false, List, [], ◌∷◌, Some, None, Result, Ok, Err, length, get_or, refl, sym, ◌∙◌, ap, subst, arith}
+use Rattle.std.proofs.Common.{◌≡◌, ◌≢◌, ◌≤◌, ◌<◌, ℕ, Bool, true, false, List, [], ◌∷◌, Some, None, Result}
+use Rattle.std.proofs.Common.{Ok, Err, length, get_or, refl, sym, ◌∙◌, ap, subst, arith}
 use Rattle.std.specs.Prelude.{◌&&◌, ◌^◌, nat_le, nat_lt, if◌then◌else◌}
 use Rattle.std.specs.List.{list_all}
 use Rattle.std.specs.Result.{OkIff, result_ok}
@@ -23,20 +24,33 @@ all_digits (c ∷ word) is =
 
 not_plus : (word : List ℕ) → list_all is_digit word ≡ true → get_or word 0 0 ≢ 43
 not_plus [] is e = absurd (let f : 0 ≡ 43 = e in omega (arith, f))
-not_plus (c ∷ word) is e = let low : 48 ≤ c = digit_low c (both_hold (is_digit c) (list_all is_digit word) is).0 in absurd (let f : c ≡ 43 = e in omega (arith, low, f))
+not_plus (c ∷ word) is e = let low : 48 ≤ c = digit_low c
+    (both_hold (is_digit c) (list_all is_digit word) is).0 in
+    absurd (let f : c ≡ 43 = e in omega (arith, low, f))
 
 -- the number of a numeral, where it has 64 bits
-read : {E : Type 0} (word : List ℕ) (r : Result ℕ E) → IsNumeral 10 word → OkIff r (IsNumeral 10 word × (digits_value 10 word < 2 ^ 64)) (digits_value 10 word) → result_ok r ≡ parsed word
-read word (Ok x) is (fits, same) = ap Some same ∙ sym (shown (lt-ltb (digits_value 10 word) (2 ^ 64) fits.1)) where
-  shown : nat_lt (digits_value 10 word) (2 ^ 64) ≡ true → parsed word ≡ Some (digits_value 10 word)
-  shown e = ap (λ (b : Bool). if b then Some (digits_value 10 word) else None) e
-read word (Err e) is large = by_test (nat_lt (digits_value 10 word) (2 ^ 64)) (λ fits. large (is, ltb-true (digits_value 10 word) (2 ^ 64) fits)) where
-  by_test : (b : Bool) → (b ≡ true → ⊥) → None ≡ (if b then Some (digits_value 10 word) else None)
-  by_test true small = absurd (small refl)
-  by_test false small = refl
+read : {E : Type 0} (word : List ℕ) (r : Result ℕ E) → IsNumeral 10 word
+    → OkIff r (IsNumeral 10 word × (digits_value 10 word < 2 ^ 64)) (digits_value 10 word) → result_ok r
+    ≡ parsed word
+read word (Ok x) is (fits, same) = ap Some same ∙ sym
+    (shown (lt-ltb (digits_value 10 word) (2 ^ 64) fits.1)) where
+      shown : nat_lt (digits_value 10 word) (2 ^ 64) ≡ true → parsed word ≡ Some (digits_value 10 word)
+      shown e = ap (λ (b : Bool). if b then Some (digits_value 10 word) else None) e
+read word (Err e) is large = by_test (nat_lt (digits_value 10 word) (2 ^ 64))
+    (λ fits. large (is, ltb-true (digits_value 10 word) (2 ^ 64) fits)) where
+      by_test : (b : Bool) → (b ≡ true → ⊥) → None ≡ (if b then Some (digits_value 10 word) else None)
+      by_test true small = absurd (small refl)
+      by_test false small = refl
 
-pub told : {E : Type 0} (word : List ℕ) (r : Result ℕ E) → is_number word ≡ true → ParsesUnsigned 64 10 word r → result_ok r ≡ parsed word
+pub told : {E : Type 0} (word : List ℕ) (r : Result ℕ E) → is_number word ≡ true
+    → ParsesUnsigned 64 10 word r → result_ok r ≡ parsed word
 told {E = E} word r is parses =
     let parts = both_hold (list_all is_digit word) (nat_le 1 (length word) && nat_le (length word) 20) is in
-    let numeral : IsNumeral 10 word = (leb-true 1 (length word) (both_hold (nat_le 1 (length word)) (nat_le (length word) 20) parts.1).0, all_digits word parts.0) in
-    read word r numeral (subst (λ (w : List ℕ). OkIff {E = E} r (IsNumeral 10 w × (digits_value 10 w < 2 ^ 64)) (digits_value 10 w)) (without_leading_plus_none word (not_plus word parts.0)) parses)
+    let numeral : IsNumeral 10 word = (
+      leb-true 1 (length word)
+          (both_hold (nat_le 1 (length word)) (nat_le (length word) 20) parts.1).0,
+      all_digits word parts.0,
+    ) in
+    read word r numeral (subst (λ (w : List ℕ). OkIff {E = E} r
+    (IsNumeral 10 w × (digits_value 10 w < 2 ^ 64)) (digits_value 10 w))
+    (without_leading_plus_none word (not_plus word parts.0)) parses)

@@ -1,5 +1,6 @@
 -- The rules of words: `check` alone, `replay` alone, or `gen` or `bench` with SEED and COUNT after it.
-use Rattle.std.specs.Prelude.{ℕ, ◌-◌, ◌^◌, ◌≤◌, ⊤, Bool, ◌&&◌, nat_le, nat_lt, List, [], ◌∷◌, Option, Some, None, codes, length, map, string_bytes, if◌then◌else◌}
+use Rattle.std.specs.Prelude.{ℕ, ◌-◌, ◌^◌, ◌≤◌, ⊤, Bool, ◌&&◌, nat_le, nat_lt, List, [], ◌∷◌, Option, Some}
+use Rattle.std.specs.Prelude.{None, codes, length, map, string_bytes, if◌then◌else◌}
 use Rattle.std.specs.List.{list_all}
 use Rattle.std.specs.Str.{bytes_eq}
 use Rattle.std.specs.Str.Parse.{digits_value}
@@ -38,7 +39,8 @@ abbrev pub is : List ℕ → List ℕ → Bool
 is word text = bytes_eq word text
 
 abbrev pub asked_of_text : List ℕ → ℕ → ℕ → Option Ask
-asked_of_text word seed count = if is word (codes "gen") then Some (Generate seed count) else if is word (codes "bench") then Some (Bench seed count) else None
+asked_of_text word seed count = if is word (codes "gen") then Some (Generate seed count) else if is word
+    (codes "bench") then Some (Bench seed count) else None
 
 abbrev pub asked_with : List ℕ → Option ℕ → Option ℕ → Option Ask
 asked_with word (Some seed) (Some count) = asked_of_text word seed count
@@ -46,7 +48,8 @@ asked_with word (Some seed) None = None
 asked_with word None count = None
 
 abbrev pub asked_alone : List ℕ → Option Ask
-asked_alone word = if is word (codes "check") then Some Check else if is word (codes "replay") then Some Replay else None
+asked_alone word = if is word (codes "check") then Some Check else if is word
+    (codes "replay") then Some Replay else None
 
 -- what the words ask for that stand first, second and third
 abbrev pub asked_read : Option (List ℕ) → Option (List ℕ) → Option (List ℕ) → Option Ask

@@ -1,4 +1,8 @@
 //! What the words after the program's name ask for.
+//!
+//! - knows no trace: the words of a run
+//! - definitions: `Words`, `Reading`
+//! - used by `sv_app`
 #![tactic(auto)]
 
 mod ask;

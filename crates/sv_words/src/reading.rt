@@ -1,7 +1,8 @@
 //! Words that are read.
 ghost use Rattle.std.specs.Prelude.{◌≡◌, ◌↔◌, IfOk, IfSome, IsTrue, is_none, option_map};
 ghost use Rattle.clap.specs.Words.{app_of};
-ghost use Rattle.sv_words.specs.Words.{IsInBounds, asked, asked_alone, asked_of_text, asked_read, asked_with, count_of, seed_of};
+ghost use Rattle.sv_words.specs.Words.{IsInBounds, asked, asked_alone, asked_of_text, asked_read};
+ghost use Rattle.sv_words.specs.Words.{asked_with, count_of, seed_of};
 ghost use Rattle.sv_words.specs.Reading.{command as command_read};
 
 use crate::Ask;
@@ -92,7 +93,8 @@ fn command<'a>(alloc: Global) -> Result<Command<'a>, AllocError>
 
 // What the words ask for that were read by their places.
 fn asked_read(word: Option<&str>, seed: Option<&str>, count: Option<&str>) -> Option<Ask>
-    ensures { result ≡ asked_read (option_map (λ s. s.now) word.entry) (option_map (λ s. s.now) seed.entry) (option_map (λ s. s.now) count.entry) }
+    ensures { result ≡ asked_read (option_map (λ s. s.now) word.entry) (option_map (λ s. s.now) seed.entry)
+        (option_map (λ s. s.now) count.entry) }
 {
     match (word, seed, count) {
         (Some(word), None, None) => asked_alone(word),

@@ -1,5 +1,9 @@
 //! `svval`: checks or replays the trace on standard input, or generates one, and writes to standard output.
 //! The program ends with the number of the run's status, 0 to 7.
+//!
+//! - knows the process that it runs in
+//! - definitions: those of `sv_app`
+//! - used by nothing: it is the program
 #![tactic(auto)]
 
 use std::alloc::{AllocError, Global};

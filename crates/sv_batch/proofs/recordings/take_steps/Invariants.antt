@@ -1,8 +1,8 @@
 use Rattle.std.proofs.Common.{take}
 use Rattle.std.specs.List.{All}
 use Rattle.sv_model.specs.declared.line.Trace.{Trace}
-use Rattle.sv_inside.specs.Steps.{IsStepOf}
-use Rattle.sv_work.specs.Works.{WorkFits}
+use Rattle.sv_step_laws.specs.Steps.{IsStepOf}
+use Rattle.sv_processed.specs.Works.{WorkFits}
 use Rattle.sv_batch.specs.Running.{are_steps_after}
 use Rattle.sv_batch.proofs.recordings.take_steps.Given as goal
 

@@ -8,5 +8,7 @@ use Rattle.sv_cell_tests.proofs.inside.is_inside.Goals as goal
 pub returns-in-Some : goal.returns-in-Some
 returns-in-Some c = λ inside.
     subst (λ (o : Option Resource). IsIn o c.args.area)
-    (sym (says_first c.as_slice.result.now c.args.trace.now.resources c.resource_of.result (area_resource c.args.area) c.in-Some.line.now c.as_slice.ensures c.resource_of.ensures c.in-Some.ensures))
+    (sym (says_first c.as_slice.result.now c.args.trace.now.resources c.resource_of.result
+    (area_resource c.args.area) c.in-Some.line.now c.as_slice.ensures c.resource_of.ensures
+    c.in-Some.ensures))
     (c.has_area.ensures inside)

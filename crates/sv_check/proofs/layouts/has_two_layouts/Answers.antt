@@ -11,16 +11,19 @@ not_true false e = refl
 
 pub returns-then-differs : goal.returns-then-differs
 returns-then-differs c =
-    sym (two_found c.args.uses.now c.loop-u.u-index _ c.loop-u.firsts c.loop-u-test.true (λ d. get_or_default c.args.uses.now c.loop-u.u-index d _ c.loop-u-test.true) c.loop-u.invariant
+    sym (two_found c.args.uses.now c.loop-u.u-index _ c.loop-u.firsts c.loop-u-test.true
+    (λ d. get_or_default c.args.uses.now c.loop-u.u-index d _ c.loop-u-test.true) c.loop-u.invariant
     (not_true _ (sym c.in_ok-differs.ensures.differs ∙ c.if-differs.true)))
 
 pub loop-u-preserved : goal.loop-u-preserved
 loop-u-preserved c =
-    one_more c.args.uses.now c.loop-u.u-index _ c.loop-u.firsts c.differs_from_first.new.firsts (λ d. get_or_default c.args.uses.now c.loop-u.u-index d _ c.loop-u-test.true) c.loop-u.invariant
+    one_more c.args.uses.now c.loop-u.u-index _ c.loop-u.firsts c.differs_from_first.new.firsts
+    (λ d. get_or_default c.args.uses.now c.loop-u.u-index d _ c.loop-u-test.true) c.loop-u.invariant
     c.in_ok-differs.ensures.kept (not_false _ (sym c.in_ok-differs.ensures.differs ∙ c.if-differs.false))
 
 pub returns : goal.returns
 returns c =
     let end = c.loop-u-test.false in
     let within = c.loop-u.auto.u-index-end in
-    sym (none_found c.args.uses.now c.loop-u.u-index c.loop-u.firsts (omega (arith, end, within)) c.loop-u.invariant (record { att = 0; layout = Undefined }))
+    sym (none_found c.args.uses.now c.loop-u.u-index c.loop-u.firsts
+    (omega (arith, end, within)) c.loop-u.invariant (record { att = 0; layout = Undefined }))

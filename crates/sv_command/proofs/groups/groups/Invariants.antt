@@ -1,6 +1,6 @@
 use Rattle.std.proofs.Common.{◌≡◌, ◌≤◌, take, map}
 use Rattle.sv_model.specs.Barriers.{element_group}
-use Rattle.sv_model.specs.Numbering.{groups_from}
+use Rattle.sv_model.specs.Positions.{groups_from}
 use Rattle.sv_model.proofs.Positions.{transition_count}
 use Rattle.sv_command.proofs.groups.groups.Given as goal
 

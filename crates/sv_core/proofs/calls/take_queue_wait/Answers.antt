@@ -2,24 +2,33 @@ use Rattle.std.proofs.Common.{ℕ, List, refl, sym, subst}
 use Rattle.std.specs.List.{All}
 use Rattle.std.proofs.lemmas.Result.{on_ok_weaker}
 use Rattle.sv_model.specs.Declarations.{queues_of}
-use Rattle.sv_model.specs.HostCalls.{host_step, queue_groups}
-use Rattle.sv_model.specs.Made.{Made}
+use Rattle.sv_model.specs.HostWaits.{host_step, queue_groups}
+use Rattle.sv_model.specs.Processed.{Made}
 use Rattle.sv_model.specs.QueueGroups.{place_in}
 use Rattle.sv_model.specs.declared.work.Place.{Place}
-use Rattle.sv_bound.specs.Runs.{run_for}
-use Rattle.sv_inside.specs.Steps.{IsGroupOf}
+use Rattle.sv_binding.specs.Runs.{run_for}
+use Rattle.sv_step_laws.specs.Steps.{IsGroupOf}
 use Rattle.sv_core.specs.Taking.{queue_groups_on}
 use Rattle.sv_core.proofs.HostWaits.{host_done, may_take, queue_groups_are, same_groups}
 use Rattle.sv_core.proofs.calls.take_queue_wait.Goals as goal
 
 pub take_groups-requires-clause-groups : goal.take_groups-requires-clause-groups
 take_groups-requires-clause-groups c =
-    may_take c.args.work.now c.args.work.now c.in_ok-groups.groups refl refl (λ t. subst (All (IsGroupOf t)) (sym c.in_ok-groups.ensures) (queue_groups_are t c.place_in.result c.as_slice-2.result.now c.args.queue)) c.requires
+    may_take c.args.work.now c.args.work.now c.in_ok-groups.groups refl refl
+    (λ t. subst (All (IsGroupOf t)) (sym c.in_ok-groups.ensures)
+    (queue_groups_are t c.place_in.result c.as_slice-2.result.now c.args.queue)) c.requires
 
 pub returns-clause-at : goal.returns-clause-at
 returns-clause-at c =
-    let same = same_groups (λ (p : Place) (qs : List ℕ). queue_groups_on p qs c.args.queue) c.args.trace.now c.place_in.result (place_in (run_for 0 c.args.run)) c.in_ok-groups.groups c.as_slice-2.result.now c.in_ok-queues.queues c.as_slice.result.now
-    c.in_ok-groups.ensures c.place_in.ensures c.as_slice-2.ensures c.in_ok-queues.ensures c.as_slice.ensures in
+    let same = same_groups (λ (p : Place) (qs : List ℕ). queue_groups_on p qs c.args.queue) c.args.trace.now
+    c.place_in.result (place_in (run_for 0 c.args.run)) c.in_ok-groups.groups c.as_slice-2.result.now
+    c.in_ok-queues.queues c.as_slice.result.now
+    c.in_ok-groups.ensures c.place_in.ensures c.as_slice-2.ensures c.in_ok-queues.ensures c.as_slice.ensures
+    in
     on_ok_weaker c.take_groups.result (λ at event.
-    host_done c.args.trace.now event c.args.work.now c.take_groups.new.self c.in_ok-groups.groups (queue_groups_on (place_in (run_for 0 c.args.run)) (queues_of c.args.trace.now) c.args.queue) c.new.result
-    (λ (m : Made). host_step (run_for event c.args.run) (queue_groups c.args.trace.now (run_for event c.args.run) c.args.queue)) at same c.new.ensures (λ m left. refl)) c.take_groups.ensures.at
+    host_done c.args.trace.now event c.args.work.now c.take_groups.new.self c.in_ok-groups.groups
+    (queue_groups_on (place_in (run_for 0 c.args.run)) (queues_of c.args.trace.now) c.args.queue)
+    c.new.result
+    (λ (m : Made). host_step (run_for event c.args.run)
+    (queue_groups c.args.trace.now (run_for event c.args.run) c.args.queue)) at same c.new.ensures
+    (λ m left. refl)) c.take_groups.ensures.at

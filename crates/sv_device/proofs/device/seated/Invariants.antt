@@ -7,5 +7,6 @@ abbrev pub invariant-loop-who : goal.invariant-loop-who
 invariant-loop-who g l = record {
   count : length l.actors.items ≡ l.who-index;
   rest : l.shares.items ≡ drop l.who-index l.fn.shares;
-  each : (i : ℕ) (who : Who) (d : _) → i < l.who-index → slice_get l.all i ≡ Some who → slice_index_or l.actors.items i d ≡ actor_is who i 0;
+  each : (i : ℕ) (who : Who) (d : _) → i < l.who-index → slice_get l.all i ≡ Some who
+      → slice_index_or l.actors.items i d ≡ actor_is who i 0;
 }

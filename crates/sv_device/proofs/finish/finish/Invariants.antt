@@ -7,5 +7,6 @@ abbrev pub invariant-loop : goal.invariant-loop
 invariant-loop g l = record {
   rest : l.actors.items ≡ drop l.counter l.fn.actors.items;
   kept : l.kept ≡ l.fn.kept;
-  whole : (i : ℕ) (who : Who) → i < l.counter → slice_get (actors_of g.C.Case.trace) i ≡ Some who → length (events_of g.C.Case.trace who l.fn.kept.history) ≡ length (script_of g.C.Case.trace who);
+  whole : (i : ℕ) (who : Who) → i < l.counter → slice_get (actors_of g.C.Case.trace) i ≡ Some who
+      → length (events_of g.C.Case.trace who l.fn.kept.history) ≡ length (script_of g.C.Case.trace who);
 }

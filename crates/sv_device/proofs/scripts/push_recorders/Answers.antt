@@ -7,5 +7,8 @@ pub loop-script-preserved : goal.loop-script-preserved
 loop-script-preserved c =
     let before = c.loop-script.invariant in record {
       number = ap (λ k. k + 1) before.number;
-      actors = pushed (λ k. Recorder k) c.args.scripts.now c.loop-script.script-index c.len.result c.loop-script.recorder c.script-item.result c.args.actors.now c.loop-script.actors c.push_actor.new.actors c.loop-script-test.true c.script-item.is c.len.ensures before.number before.actors c.in_ok-push_actor.ensures;
+      actors = pushed (λ k. Recorder k) c.args.scripts.now c.loop-script.script-index c.len.result
+          c.loop-script.recorder c.script-item.result c.args.actors.now c.loop-script.actors
+          c.push_actor.new.actors c.loop-script-test.true c.script-item.is c.len.ensures before.number
+          before.actors c.in_ok-push_actor.ensures;
     }

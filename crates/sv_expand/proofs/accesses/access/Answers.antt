@@ -10,12 +10,15 @@ usages_of n = record { 0 = n }
 pub returns-clause-exact : goal.returns-clause-exact
 unfolding usages_of
 returns-clause-exact c =
-    ap usages_of (access-rows c.args.stages c.args.accesses _ _ _ _ c.union_of_rows-at.ensures c.union_of_rows-plain.ensures c.with_flag-with_reads.ensures c.with_flag-with_writes.ensures)
+    ap usages_of (access-rows c.args.stages c.args.accesses _ _ _ _ c.union_of_rows-at.ensures
+    c.union_of_rows-plain.ensures c.with_flag-with_reads.ensures c.with_flag-with_writes.ensures)
 
 pub returns-clause-in_first_scope : goal.returns-clause-in_first_scope
 returns-clause-in_first_scope c =
-    subst (λ set. IsAtStages set (first_sync c.args.stages)) (sym (returns-clause-exact c)) (access-first c.args.stages c.args.accesses)
+    subst (λ set. IsAtStages set (first_sync c.args.stages)) (sym (returns-clause-exact c))
+    (access-first c.args.stages c.args.accesses)
 
 pub returns-clause-in_second_scope : goal.returns-clause-in_second_scope
 returns-clause-in_second_scope c =
-    subst (λ set. IsAtStages set (second_sync c.args.stages)) (sym (returns-clause-exact c)) (access-second c.args.stages c.args.accesses)
+    subst (λ set. IsAtStages set (second_sync c.args.stages)) (sym (returns-clause-exact c))
+    (access-second c.args.stages c.args.accesses)

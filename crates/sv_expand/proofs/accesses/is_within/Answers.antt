@@ -7,7 +7,8 @@ pub returns : goal.returns
 unfolding is_within
 returns c =
     let scope = access c.args.stages c.args.accesses in
-    let small = subst (λ set. set.0 < 2 ^ 43) (sym c.access-scope.ensures.exact) (access-lt c.args.stages c.args.accesses) in
+    let small = subst (λ set. set.0 < 2 ^ 43) (sym c.access-scope.ensures.exact)
+    (access-lt c.args.stages c.args.accesses) in
     let usages =
     c.holds-has_usages.ensures 43 small
     ∙ ap (has_usages c.access-of_scope.result) c.access-scope.ensures.exact

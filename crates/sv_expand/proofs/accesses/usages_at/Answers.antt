@@ -13,8 +13,10 @@ returns-clause-exact c = ap usages_of (usages_at-rows c.args.word _ c.union_of_r
 
 pub returns-clause-in_first_scope : goal.returns-clause-in_first_scope
 returns-clause-in_first_scope c =
-    subst (λ set. IsAtStages set (first_sync c.args.word)) (sym (returns-clause-exact c)) (usages_at-first c.args.word)
+    subst (λ set. IsAtStages set (first_sync c.args.word)) (sym (returns-clause-exact c))
+    (usages_at-first c.args.word)
 
 pub returns-clause-in_second_scope : goal.returns-clause-in_second_scope
 returns-clause-in_second_scope c =
-    subst (λ set. IsAtStages set (second_sync c.args.word)) (sym (returns-clause-exact c)) (usages_at-second c.args.word)
+    subst (λ set. IsAtStages set (second_sync c.args.word)) (sym (returns-clause-exact c))
+    (usages_at-second c.args.word)

@@ -5,7 +5,8 @@ use Rattle.sv_expand.proofs.stages.first_sync.Goals as goal
 
 pub overflow_cast-result : goal.overflow_cast-result
 overflow_cast-result c =
-    let small = first_sync-small c.args.word _ (first_sync-rows c.args.word _ _ c.union_of_rows-named.ensures c.with_flag-all.ensures) in
+    let small = first_sync-small c.args.word _ (first_sync-rows c.args.word _ _
+    c.union_of_rows-named.ensures c.with_flag-all.ensures) in
     search (rules, small)
 
 pub returns : goal.returns

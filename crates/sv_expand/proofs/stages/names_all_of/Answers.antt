@@ -4,5 +4,7 @@ use Rattle.sv_expand.proofs.stages.names_all_of.Goals as goal
 
 pub returns : goal.returns
 returns c =
-    ap (λ b. b && (not c.args.other.top || c.args.word.top) && (not c.args.other.bottom || c.args.word.bottom))
-    (c.holds-stages.ensures 17 (plain-lt c.args.other.plain.0) ∙ plain-all c.args.word.plain.0 c.args.other.plain.0)
+    ap (λ b. b && (not c.args.other.top || c.args.word.top) &&
+    (not c.args.other.bottom || c.args.word.bottom))
+    (c.holds-stages.ensures 17 (plain-lt c.args.other.plain.0)
+    ∙ plain-all c.args.word.plain.0 c.args.other.plain.0)

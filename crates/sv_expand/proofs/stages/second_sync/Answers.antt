@@ -5,7 +5,8 @@ use Rattle.sv_expand.proofs.stages.second_sync.Goals as goal
 
 pub overflow_cast-result : goal.overflow_cast-result
 overflow_cast-result c =
-    let small = second_sync-small c.args.word _ (second_sync-rows c.args.word _ _ c.union_of_rows-named.ensures c.with_flag-all.ensures) in
+    let small = second_sync-small c.args.word _ (second_sync-rows c.args.word _ _
+    c.union_of_rows-named.ensures c.with_flag-all.ensures) in
     search (rules, small)
 
 pub returns : goal.returns

@@ -8,4 +8,5 @@ loop-member-init c k = has-zero k
 
 pub loop-member-preserved : goal.loop-member-preserved
 loop-member-preserved c k =
-    c.with_flag-all.ensures k ∙ union-more c.args.set c.args.rows.now c.loop-member.member k _ (c.loop-member.invariant k)
+    c.with_flag-all.ensures k ∙ union-more c.args.set c.args.rows.now c.loop-member.member k _
+    (c.loop-member.invariant k)

@@ -6,4 +6,5 @@ use Rattle.sv_model.specs.declared.line.Batch.{Batch}
 use Rattle.sv_gate.proofs.gate.are_published.Given as goal
 
 abbrev pub invariant-loop-batch : goal.invariant-loop-batch
-invariant-loop-batch l = list_all (λ (b : Batch). list_all (contains nat_cmp l.published) b.recs) (take l.batch-index l.batches) ≡ true
+invariant-loop-batch l = list_all (λ (b : Batch). list_all (contains nat_cmp l.published) b.recs)
+    (take l.batch-index l.batches) ≡ true

@@ -4,4 +4,5 @@ use Rattle.sv_gate.specs.declared.waiting.Waiting.{Waiting}
 use Rattle.sv_gate.proofs.lanes.push_held.Given as goal
 
 abbrev pub invariant-loop-waiting : goal.invariant-loop-waiting
-invariant-loop-waiting l = l.list ≡ l.fn.list ++ map (λ (x : Waiting). held.Call l.lane x.index) (map (λ (x : Bor Waiting). x.now) l.yielded)
+invariant-loop-waiting l = l.list ≡ l.fn.list ++ map (λ (x : Waiting). held.Call l.lane x.index)
+    (map (λ (x : Bor Waiting). x.now) l.yielded)

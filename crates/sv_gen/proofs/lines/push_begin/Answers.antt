@@ -4,4 +4,6 @@ use Rattle.sv_gen.proofs.lines.push_begin.Goals as goal
 
 pub returns : goal.returns
 unfolding begin_line
-returns c = join_four _ _ _ _ _ _ _ _ _ c.in_ok-push_op.ensures (rw c.from.ensures at c.in_ok-push_member.ensures) (rw c.from-2.ensures at c.in_ok-push_member-2.ensures) c.in_ok-push_str.ensures.bytes
+returns c = join_four _ _ _ _ _ _ _ _ _ c.in_ok-push_op.ensures
+    (rw c.from.ensures at c.in_ok-push_member.ensures)
+    (rw c.from-2.ensures at c.in_ok-push_member-2.ensures) c.in_ok-push_str.ensures.bytes

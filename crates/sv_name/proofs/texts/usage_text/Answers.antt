@@ -4,8 +4,10 @@ use Rattle.sv_name.proofs.texts.usage_text.Goals as goal
 
 pub returns-clause-access : goal.returns-clause-access
 unfolding usage_text
-returns-clause-access c = c.text_at.ensures ∙ ap (text_at plain_accesses) (c.number-access.ensures.place ∙ c.access_of.ensures)
+returns-clause-access c = c.text_at.ensures ∙ ap (text_at plain_accesses)
+    (c.number-access.ensures.place ∙ c.access_of.ensures)
 
 pub returns-clause-stage : goal.returns-clause-stage
 unfolding usage_text
-returns-clause-stage c = c.text_at-2.ensures ∙ ap (text_at plain_stages) (c.number-stage.ensures.place ∙ c.stage_of.ensures)
+returns-clause-stage c = c.text_at-2.ensures ∙ ap (text_at plain_stages)
+    (c.number-stage.ensures.place ∙ c.stage_of.ensures)

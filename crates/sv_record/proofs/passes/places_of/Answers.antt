@@ -9,7 +9,8 @@ pub loop-i-init : goal.loop-i-init
 loop-i-init c n = ap (lookup (is_at (nat_cmp n))) c.new-places.ensures.empty ∙ sym (no_place n)
 
 pub loop-i-preserved : goal.loop-i-preserved
-loop-i-preserved c n = places_more n c.loop-i.i c.args.lines.now c.index-lines-i.result _ _ c.loop-i-test.true (c.loop-i.invariant n) c.index-lines-i.is (c.in_ok-take.ensures n)
+loop-i-preserved c n = places_more n c.loop-i.i c.args.lines.now c.index-lines-i.result _ _
+    c.loop-i-test.true (c.loop-i.invariant n) c.index-lines-i.is (c.in_ok-take.ensures n)
 
 pub returns : goal.returns
 returns c = λ n. places_all n c.loop-i.i c.args.lines.now _ c.loop-i-test.false (c.loop-i.invariant n)

@@ -4,4 +4,5 @@ use Rattle.sv_report.specs.Notes.{note_line}
 use Rattle.sv_report.proofs.replies.push_notes.Given as goal
 
 abbrev pub invariant-loop-note : goal.invariant-loop-note
-invariant-loop-note l = string_bytes l.text ≡ string_bytes l.initial.text ++ flat_map note_line (take l.note-index l.notes)
+invariant-loop-note l = string_bytes l.text ≡ string_bytes l.initial.text
+    ++ flat_map note_line (take l.note-index l.notes)

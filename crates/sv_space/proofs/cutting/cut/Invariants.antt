@@ -9,5 +9,6 @@ abbrev pub invariant-loop-span : goal.invariant-loop-span
 invariant-loop-span l = record {
   same : IsSameLine l.initial.line l.line;
   parts : ArePartsOf l.line.pieces.parts.items l.initial.line.pieces.parts.items;
-  cut : (j : ℕ) (e : Span) → j < l.span-index → IsCutAt l.line.pieces.size l.line.pieces.parts.items (get_or l.list j e);
+  cut : (j : ℕ) (e : Span) → j < l.span-index → IsCutAt l.line.pieces.size l.line.pieces.parts.items
+      (get_or l.list j e);
 }

@@ -10,9 +10,13 @@ loop-group-init c = λ cell only may. gone_none cell (contents_of c.args.state.n
 
 pub loop-group-preserved : goal.loop-group-preserved
 loop-group-preserved c = λ cell only may.
-    gone_next cell c.args.groups.now c.loop-group.group-index c.group-item.result (contents_of c.args.state.now) c.loop-group.state c.extend.new.self c.loop-group-test.true (sym c.group-item.is) may
+    gone_next cell c.args.groups.now c.loop-group.group-index c.group-item.result
+    (contents_of c.args.state.now) c.loop-group.state c.extend.new.self c.loop-group-test.true
+    (sym c.group-item.is) may
     (c.loop-group.invariant cell only may) (c.in_ok-extend.ensures cell only)
 
 pub returns : goal.returns
 returns c = λ cell only may.
-    subst (λ gs. HasGone cell gs (contents_of c.args.state.now) (contents_of c.loop-group.state)) (take_all c.loop-group.group-index c.args.groups.now (omega arith)) (c.loop-group.invariant cell only may)
+    subst (λ gs. HasGone cell gs (contents_of c.args.state.now) (contents_of c.loop-group.state))
+    (take_all c.loop-group.group-index c.args.groups.now (omega arith))
+    (c.loop-group.invariant cell only may)

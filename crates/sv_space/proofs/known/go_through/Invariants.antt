@@ -6,4 +6,5 @@ use Rattle.sv_space.specs.Known.{HasGone, MayFollow}
 use Rattle.sv_space.proofs.known.go_through.Given as goal
 
 abbrev pub invariant-loop-group : goal.invariant-loop-group
-invariant-loop-group l = (cell : Cell) → IsOnly l.at cell → MayFollow l.initial.state.step l.groups → HasGone cell (take l.group-index l.groups) (contents_of l.initial.state) (contents_of l.state)
+invariant-loop-group l = (cell : Cell) → IsOnly l.at cell → MayFollow l.initial.state.step l.groups
+    → HasGone cell (take l.group-index l.groups) (contents_of l.initial.state) (contents_of l.state)

@@ -8,5 +8,6 @@ abbrev pub invariant-loop-dep : goal.invariant-loop-dep
 invariant-loop-dep l = record {
   same : AreSameLines l.initial.lines.items l.lines.items;
   parts : AreAllPartsOf l.lines.items l.initial.lines.items;
-  cut : (d : Dep) → Contains (take l.dep-index l.deps) d → (area : Area) → d.range ≡ Some area → AreAllCut area l.lines.items;
+  cut : (d : Dep) → Contains (take l.dep-index l.deps) d → (area : Area) → d.range ≡ Some area
+      → AreAllCut area l.lines.items;
 }

@@ -9,5 +9,6 @@ abbrev pub invariant-loop-group : goal.invariant-loop-group
 invariant-loop-group l = record {
   same : AreSameLines l.initial.lines.items l.lines.items;
   parts : AreAllPartsOf l.lines.items l.initial.lines.items;
-  cut : (g : Group) → Contains (take l.group-index l.groups) g → (d : Dep) (area : Area) → Contains g.deps d → d.range ≡ Some area → AreAllCut area l.lines.items;
+  cut : (g : Group) → Contains (take l.group-index l.groups) g → (d : Dep) (area : Area) → Contains g.deps d
+      → d.range ≡ Some area → AreAllCut area l.lines.items;
 }

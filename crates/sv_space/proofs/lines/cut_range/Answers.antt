@@ -25,5 +25,7 @@ pub returns-in-Some : goal.returns-in-Some
 returns-in-Some c = record {
   same = c.cut_area.ensures.same;
   parts = c.cut_area.ensures.parts;
-  cut = on_ok_weaker c.cut_area.result (λ cut area is. subst (λ (a : Area). AreAllCut a c.cut_area.new.lines.items) (one_area c.args.range c.in-Some.area area c.in-Some.is is) cut) c.cut_area.ensures.cut;
+  cut = on_ok_weaker c.cut_area.result (λ cut area is. subst
+      (λ (a : Area). AreAllCut a c.cut_area.new.lines.items)
+      (one_area c.args.range c.in-Some.area area c.in-Some.is is) cut) c.cut_area.ensures.cut;
 }

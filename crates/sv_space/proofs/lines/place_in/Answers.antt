@@ -14,7 +14,9 @@ loop-low-preserved-then-lines-middle c =
     let in_list : m < length c.args.lines.now = omega (arith, half, t, h) in (
       omega (arith, half, t),
       was.1,
-      λ sorted. less_before c.args.lines.now m c.args.res c.index-lines-middle.result c.index-lines-middle.is in_list (let e = ap (λ (l : Line). l.res) c.index-lines-middle.is in let less = c.if-lines-middle.true in omega (arith, e, less)) sorted,
+      λ sorted. less_before c.args.lines.now m c.args.res c.index-lines-middle.result
+          c.index-lines-middle.is in_list (let e = ap (λ (l : Line). l.res) c.index-lines-middle.is in
+          let less = c.if-lines-middle.true in omega (arith, e, less)) sorted,
       was.3,
     )
 
@@ -29,5 +31,7 @@ loop-low-preserved c =
       omega arith,
       omega (arith, in_list),
       was.2,
-      λ sorted. more_behind c.args.lines.now m c.args.res c.index-lines-middle.result c.index-lines-middle.is in_list (let e = ap (λ (l : Line). l.res) c.index-lines-middle.is in let more = c.if-lines-middle.false in omega (arith, e, more)) sorted,
+      λ sorted. more_behind c.args.lines.now m c.args.res c.index-lines-middle.result
+          c.index-lines-middle.is in_list (let e = ap (λ (l : Line). l.res) c.index-lines-middle.is in
+          let more = c.if-lines-middle.false in omega (arith, e, more)) sorted,
     )

@@ -7,7 +7,8 @@ abbrev pub invariant-loop-low : goal.invariant-loop-low
 invariant-loop-low l =
     (l.low ≤ l.high) × (l.high ≤ length l.lines)
     × (AreSorted l.lines → (k : ℕ) (d : Line) → k < l.low → (get_or l.lines k d).res < l.res)
-    × (AreSorted l.lines → (k : ℕ) (d : Line) → l.high ≤ k → k < length l.lines → l.res ≤ (get_or l.lines k d).res)
+    × (AreSorted l.lines → (k : ℕ) (d : Line) → l.high ≤ k → k < length l.lines → l.res
+    ≤ (get_or l.lines k d).res)
 
 abbrev pub decreases-loop-low : goal.decreases-loop-low
 decreases-loop-low l = l.high - l.low

@@ -12,10 +12,15 @@ abbrev pub invariant-loop-access : goal.invariant-loop-access
 invariant-loop-access l = record {
   same : AreSameLines l.initial.lines.items l.lines.items;
   within : AreAllWithin (length l.log) l.lines.items;
-  stands : (work : List Step) → AreNumbered work → l.log ≡ groups_in work → AreLinesOf work l.initial.lines.items → AreLinesOf work l.lines.items;
-  others : (at : Area) (n : ℕ) → ((x : Access) → Contains l.accesses x → AreApart x.area at) → AreAllCaught at n l.initial.lines.items → AreAllCaught at n l.lines.items;
-  still : (at : Area) → AreAllCaught at (length l.log) l.initial.lines.items → AreAllCaught at (length l.log) l.lines.items;
-  none : ((x : Access) → Contains l.accesses x → AreAllCaught x.area (length l.log) l.initial.lines.items) → l.given ≡ 0;
+  stands : (work : List Step) → AreNumbered work → l.log ≡ groups_in work
+      → AreLinesOf work l.initial.lines.items → AreLinesOf work l.lines.items;
+  others : (at : Area) (n : ℕ) → ((x : Access) → Contains l.accesses x → AreApart x.area at)
+      → AreAllCaught at n l.initial.lines.items → AreAllCaught at n l.lines.items;
+  still : (at : Area) → AreAllCaught at (length l.log) l.initial.lines.items
+      → AreAllCaught at (length l.log) l.lines.items;
+  none : ((x : Access) → Contains l.accesses x → AreAllCaught x.area (length l.log) l.initial.lines.items)
+      → l.given ≡ 0;
   cut : (x : Access) → Contains (take l.access-index l.accesses) x → AreAllCut x.area l.lines.items;
-  caught : (x : Access) → Contains (take l.access-index l.accesses) x → AreAllCaught x.area (length l.log) l.lines.items;
+  caught : (x : Access) → Contains (take l.access-index l.accesses) x
+      → AreAllCaught x.area (length l.log) l.lines.items;
 }

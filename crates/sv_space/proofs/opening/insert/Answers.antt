@@ -11,39 +11,53 @@ returns-clause-sorted c =
     let old = c.args.lines.now.items in
     let at = c.place_in-at.result in
     let line = c.args.line in
-    let le : at ≤ length old = subst (λ (ls : List Line). at ≤ length ls) c.deref.ensures.value c.place_in-at.ensures.listed in
-    let place : IsPlaceOf line.res old at = subst (λ (ls : List Line). IsPlaceOf line.res ls at) c.deref.ensures.value (c.place_in-at.ensures.place (subst (λ (ls : List Line). AreSorted ls) (sym c.deref.ensures.value) c.requires.sorted)) in
+    let le : at ≤ length old = subst (λ (ls : List Line). at ≤ length ls) c.deref.ensures.value
+    c.place_in-at.ensures.listed in
+    let place : IsPlaceOf line.res old at = subst
+    (λ (ls : List Line). IsPlaceOf line.res ls at) c.deref.ensures.value
+    (c.place_in-at.ensures.place (subst (λ (ls : List Line). AreSorted ls)
+    (sym c.deref.ensures.value) c.requires.sorted)) in
     subst (λ (ls : List Line). AreSorted ls) (sym c.in_ok-insert.ensures.items)
     (insert_sorted old at line le c.requires.sorted place
-    (λ d lt same. c.is_there.ensures.absent c.if-is_there.false d (subst (λ (ls : List Line). at < length ls) (sym c.deref-2.ensures.value) lt) (subst (λ (ls : List Line). (get_or ls at d).res ≡ line.res) (sym c.deref-2.ensures.value) same)))
+    (λ d lt same. c.is_there.ensures.absent c.if-is_there.false d
+    (subst (λ (ls : List Line). at < length ls) (sym c.deref-2.ensures.value) lt)
+    (subst (λ (ls : List Line). (get_or ls at d).res ≡ line.res) (sym c.deref-2.ensures.value) same)))
 
 pub returns-clause-fresh : goal.returns-clause-fresh
 returns-clause-fresh c = λ fresh.
     let old = c.args.lines.now.items in
     let at = c.place_in-at.result in
-    let le : at ≤ length old = subst (λ (ls : List Line). at ≤ length ls) c.deref.ensures.value c.place_in-at.ensures.listed in
-    subst (λ (ls : List Line). AreFresh ls) (sym c.in_ok-insert.ensures.items) (insert_each old at c.args.line le IsFresh c.requires.fresh fresh)
+    let le : at ≤ length old = subst (λ (ls : List Line). at ≤ length ls) c.deref.ensures.value
+    c.place_in-at.ensures.listed in
+    subst (λ (ls : List Line). AreFresh ls) (sym c.in_ok-insert.ensures.items)
+    (insert_each old at c.args.line le IsFresh c.requires.fresh fresh)
 
 pub returns-clause-kept : goal.returns-clause-kept
 returns-clause-kept c =
     let old = c.args.lines.now.items in
     let at = c.place_in-at.result in
-    let le : at ≤ length old = subst (λ (ls : List Line). at ≤ length ls) c.deref.ensures.value c.place_in-at.ensures.listed in
-    subst (λ (ls : List Line). (l : Line) → Contains old l → Contains ls l) (sym c.in_ok-insert.ensures.items) (insert_kept old at c.args.line le)
+    let le : at ≤ length old = subst (λ (ls : List Line). at ≤ length ls) c.deref.ensures.value
+    c.place_in-at.ensures.listed in
+    subst (λ (ls : List Line). (l : Line) → Contains old l → Contains ls l)
+    (sym c.in_ok-insert.ensures.items) (insert_kept old at c.args.line le)
 
 pub returns-clause-only : goal.returns-clause-only
 returns-clause-only c =
     let old = c.args.lines.now.items in
     let at = c.place_in-at.result in
-    let le : at ≤ length old = subst (λ (ls : List Line). at ≤ length ls) c.deref.ensures.value c.place_in-at.ensures.listed in
-    subst (λ (ls : List Line). (l : Line) → Contains ls l → Contains old l ⊎ (l ≡ c.args.line)) (sym c.in_ok-insert.ensures.items) (insert_only old at c.args.line le)
+    let le : at ≤ length old = subst (λ (ls : List Line). at ≤ length ls) c.deref.ensures.value
+    c.place_in-at.ensures.listed in
+    subst (λ (ls : List Line). (l : Line) → Contains ls l → Contains old l ⊎ (l ≡ c.args.line))
+    (sym c.in_ok-insert.ensures.items) (insert_only old at c.args.line le)
 
 pub returns-clause-has : goal.returns-clause-has
 returns-clause-has c = λ none.
     let old = c.args.lines.now.items in
     let at = c.place_in-at.result in
-    let le : at ≤ length old = subst (λ (ls : List Line). at ≤ length ls) c.deref.ensures.value c.place_in-at.ensures.listed in
-    subst (λ (ls : List Line). Contains ls c.args.line) (sym c.in_ok-insert.ensures.items) (insert_has old at c.args.line le)
+    let le : at ≤ length old = subst (λ (ls : List Line). at ≤ length ls) c.deref.ensures.value
+    c.place_in-at.ensures.listed in
+    subst (λ (ls : List Line). Contains ls c.args.line) (sym c.in_ok-insert.ensures.items)
+    (insert_has old at c.args.line le)
 
 pub returns-then-is_there-clause-has : goal.returns-then-is_there-clause-has
 returns-then-is_there-clause-has c = λ none.

@@ -1,4 +1,5 @@
-use Rattle.std.proofs.Common.{◌≡◌, ◌∷◌, ◌++◌, [], ◌∙◌, List, Contains, inl, inr, ap, arith, get_or, refl, sym, subst, take}
+use Rattle.std.proofs.Common.{◌≡◌, ◌∷◌, ◌++◌, [], ◌∙◌, List, Contains, inl, inr, ap, arith, get_or, refl}
+use Rattle.std.proofs.Common.{sym, subst, take}
 use Rattle.std.proofs.lemmas.List.{take_all, take_more}
 use Rattle.std.proofs.lemmas.List.Elements.{Contains-append_left, Contains-push}
 use Rattle.sv_model.specs.Lawful.{declared_number}
@@ -22,17 +23,29 @@ loop-declared-preserved c =
       sorted = one.sorted;
       fresh = one.fresh was.fresh;
       from = λ m on. elim (one.only m on) [
-        | inl old ↦ (let w = was.from m old in (w.0, subst (λ (es : List Declared). Contains es w.0) (sym taken) (Contains-append_left (take i rs) (d ∷ []) w.0 w.1), w.2))
-        | inr now ↦ (d, subst (λ (es : List Declared). Contains es d) (sym taken) (Contains-push (take i rs) d), now)
+        | inl old ↦ (let w = was.from m old in (
+          w.0,
+          subst (λ (es : List Declared). Contains es w.0) (sym taken)
+              (Contains-append_left (take i rs) (d ∷ []) w.0 w.1),
+          w.2,
+        ))
+        | inr now ↦ (
+          d,
+          subst (λ (es : List Declared). Contains es d) (sym taken)
+              (Contains-push (take i rs) d),
+          now,
+        )
       ];
       has = λ once e on. elim (taken_cases rs i d lt at e on) [
         | inl before ↦ (let w = was.has once e before in (w.0, one.kept w.0 w.1, w.2))
         | inr same ↦ subst (λ (f : Declared). HasLineFor new f) same (one.has (λ l in_old is_number.
             let w = was.from l in_old in
-            once_apart declared_number rs once i d w.0 lt at w.1 l.res l.res (line_number w.0 l w.2) is_number refl))
+            once_apart declared_number rs once i d w.0 lt at w.1 l.res l.res
+            (line_number w.0 l w.2) is_number refl))
       ];
     }
 
 pub returns-clause-has : goal.returns-clause-has
 returns-clause-has c = λ once d on.
-    c.loop-declared.invariant.has once d (subst (λ (es : List Declared). Contains es d) (sym (take_all c.loop-declared.declared-index c.args.resources.now (omega arith))) on)
+    c.loop-declared.invariant.has once d (subst (λ (es : List Declared). Contains es d)
+    (sym (take_all c.loop-declared.declared-index c.args.resources.now (omega arith))) on)

@@ -11,6 +11,8 @@ abbrev pub invariant-loop-declared : goal.invariant-loop-declared
 invariant-loop-declared l = record {
   sorted : AreSorted l.lines.items;
   fresh : AreFresh l.lines.items;
-  from : (m : Line) → Contains l.lines.items m → (e : Declared) × Contains (take l.declared-index l.resources) e × IsLineFor e m;
-  has : AreOnce l.resources → (e : Declared) → Contains (take l.declared-index l.resources) e → HasLineFor l.lines.items e;
+  from : (m : Line) → Contains l.lines.items m → (e : Declared)
+      × Contains (take l.declared-index l.resources) e × IsLineFor e m;
+  has : AreOnce l.resources → (e : Declared) → Contains (take l.declared-index l.resources) e
+      → HasLineFor l.lines.items e;
 }

@@ -8,7 +8,9 @@ use Rattle.sv_space.specs.Own.{own_of}
 use Rattle.sv_space.proofs.stepping.races.Given as goal
 
 abbrev pub invariant-loop-access : goal.invariant-loop-access
-invariant-loop-access l = (story : Story) (epoch : ℕ) → StandsFor story epoch (contents_of l.state) → NoRaces story epoch
+invariant-loop-access l = (story : Story) (epoch : ℕ) → StandsFor story epoch (contents_of l.state)
+    → NoRaces story epoch
     → ((x : Access) → Contains l.accesses x → IsBelow x.step story)
     → ((x : Access) → Contains l.accesses x → IsTrue (covers x.area story.cell))
-    → (k : ℕ) (d : Access) → k < length l.accesses → k < l.access-index → IsClear (extended story (own_of l.groups (get_or l.accesses k d))) epoch (get_or l.accesses k d)
+    → (k : ℕ) (d : Access) → k < length l.accesses → k < l.access-index
+    → IsClear (extended story (own_of l.groups (get_or l.accesses k d))) epoch (get_or l.accesses k d)

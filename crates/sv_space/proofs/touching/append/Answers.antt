@@ -1,4 +1,5 @@
-use Rattle.std.proofs.Common.{◌≡◌, ◌≤◌, ◌∙◌, ◌++◌, ◌∷◌, [], List, append-nil, append_assoc, length-append, ap, arith, length, sym, take}
+use Rattle.std.proofs.Common.{◌≡◌, ◌≤◌, ◌∙◌, ◌++◌, ◌∷◌, [], List, append-nil, append_assoc, length-append}
+use Rattle.std.proofs.Common.{ap, arith, length, sym, take}
 use Rattle.std.proofs.lemmas.List.{take_all, take_more}
 use Rattle.sv_model.specs.declared.work.Group.{Group}
 use Rattle.sv_space.proofs.touching.append.Goals as goal
@@ -22,10 +23,13 @@ loop-group-preserved c =
     ∙ ap (λ (gs : List Group). old ++ gs) (sym (take_more groups i g c.loop-group-test.true))
 
 pub returns-in_err-copied-clause-longer : goal.returns-in_err-copied-clause-longer
-returns-in_err-copied-clause-longer c = longer_by c.args.log.now.items (take c.loop-group.group-index c.args.groups.now) c.loop-group.log.items c.loop-group.invariant
+returns-in_err-copied-clause-longer c = longer_by c.args.log.now.items
+    (take c.loop-group.group-index c.args.groups.now) c.loop-group.log.items c.loop-group.invariant
 
 pub returns-clause-all : goal.returns-clause-all
-returns-clause-all c = c.loop-group.invariant ∙ ap (λ (gs : List Group). c.args.log.now.items ++ gs) (take_all c.loop-group.group-index c.args.groups.now (omega arith))
+returns-clause-all c = c.loop-group.invariant ∙ ap (λ (gs : List Group). c.args.log.now.items ++ gs)
+    (take_all c.loop-group.group-index c.args.groups.now (omega arith))
 
 pub returns-clause-longer : goal.returns-clause-longer
-returns-clause-longer c = longer_by c.args.log.now.items (take c.loop-group.group-index c.args.groups.now) c.loop-group.log.items c.loop-group.invariant
+returns-clause-longer c = longer_by c.args.log.now.items
+    (take c.loop-group.group-index c.args.groups.now) c.loop-group.log.items c.loop-group.invariant

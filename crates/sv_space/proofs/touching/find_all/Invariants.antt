@@ -12,6 +12,8 @@ use Rattle.sv_space.proofs.touching.find_all.Given as goal
 abbrev pub invariant-loop-access : goal.invariant-loop-access
 invariant-loop-access l = record {
   runs : AreRuns l.reports;
-  found : (work : List Step) (step : Step) → IsStepOf work step l.accesses l.groups → ((x : Access) → Contains l.accesses x → AreAllCaught x.area (length (groups_in work)) l.lines) → AreLinesOf work l.lines
+  found : (work : List Step) (step : Step) → IsStepOf work step l.accesses l.groups
+      → ((x : Access) → Contains l.accesses x → AreAllCaught x.area (length (groups_in work)) l.lines)
+      → AreLinesOf work l.lines
       → AreFound (length work) (work ++ step ∷ []) (IsOfFirst l.access-index) (spots_of l.reports);
 }

@@ -10,5 +10,7 @@ invariant-loop-number l = record {
   same : AreSameLines l.initial.lines.items l.lines.items;
   within : (n : ℕ) → AreAllWithin n l.initial.lines.items → AreAllWithin n l.lines.items;
   upto : (at : Area) (n : ℕ) → AreAllCaught at n l.initial.lines.items → AreAllCaught at n l.lines.items;
-  stepped : (k : ℕ) (d : Line) → k < length l.initial.lines.items → IsLineStepped l.accesses l.groups l.number (get_or l.initial.lines.items k d) (get_or l.lines.items k d);
+  stepped : (k : ℕ) (d : Line) → k < length l.initial.lines.items
+      → IsLineStepped l.accesses l.groups l.number (get_or l.initial.lines.items k d)
+      (get_or l.lines.items k d);
 }

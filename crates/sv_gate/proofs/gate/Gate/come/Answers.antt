@@ -11,6 +11,10 @@ pub returns-clause-arrived : goal.returns-clause-arrived
 returns-clause-arrived c t h is now =
     let x : Waiting = c.in_ok-waiting.waiting in
     let lanes = with_items_is c.args.self.now.lanes c.hold.new.lanes (omega arith) in
-    let held : c.hold.new.lanes ≡ added c.args.self.now.lanes.items c.args.lane (x ∷ []) = subst (λ (all : List (List Waiting)). c.hold.new.lanes ≡ added all c.args.lane (x ∷ [])) c.deref_mut.ensures.value c.in_ok-self.ensures.held in
-    let events : c.push.new.self.items ≡ c.args.self.now.events.items ++ mark.Call c.args.lane c.args.index ∷ [] = grind (arith, common_steps) in
-    after_arrival t h c.args.self.now _ c.args.lane c.args.index c.args.event x is now refl events refl c.in_ok-waiting.ensures (lanes ∙ held) refl c.in_ok-self.ensures.sum c.in_ok-self.ensures.small
+    let held : c.hold.new.lanes ≡ added c.args.self.now.lanes.items c.args.lane (x ∷ []) =
+    subst (λ (all : List (List Waiting)). c.hold.new.lanes ≡ added all c.args.lane (x ∷ []))
+    c.deref_mut.ensures.value c.in_ok-self.ensures.held in
+    let events : c.push.new.self.items ≡ c.args.self.now.events.items ++ mark.Call c.args.lane c.args.index
+    ∷ [] = grind (arith, common_steps) in
+    after_arrival t h c.args.self.now _ c.args.lane c.args.index c.args.event x is now refl events refl
+    c.in_ok-waiting.ensures (lanes ∙ held) refl c.in_ok-self.ensures.sum c.in_ok-self.ensures.small

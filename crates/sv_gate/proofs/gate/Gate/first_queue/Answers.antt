@@ -1,6 +1,5 @@
 use Rattle.std.proofs.Common.{◌<◌, ◌≡◌, ◌∙◌, [], length, sym, ap, arith}
-use Rattle.sv_model.specs.Enabled.{item_ready}
-use Rattle.sv_model.specs.Flow.{starts}
+use Rattle.sv_model.specs.Holding.{item_ready, starts}
 use Rattle.sv_gate.proofs.Places.{first_is, none_is}
 use Rattle.sv_gate.proofs.gate.Gate.first_queue.Goals as goal
 
@@ -15,4 +14,5 @@ returns-then-queue_starts c t h m p lawful is stands agrees =
 pub returns : goal.returns
 returns c t h m p lawful is stands agrees =
     let long : length c.args.self.now.queues.items ≡ length h.queues = ap length is.queues in
-    sym (none_is (starts (item_ready t p h.events)) h.queues [] (λ k l. c.loop-queue.invariant t h m p lawful is stands agrees k (omega arith)))
+    sym (none_is (starts (item_ready t p h.events)) h.queues []
+    (λ k l. c.loop-queue.invariant t h m p lawful is stands agrees k (omega arith)))

@@ -13,7 +13,9 @@ returns-in-None c t h m p lawful is stands agrees =
 
 pub returns-in-Some : goal.returns-in-Some
 returns-in-Some c t h m p lawful is stands agrees =
-    let names = first_names t c.args.self.now.scripts c.args.lane (get_or c.args.self.now.lanes.items c.args.lane []) lawful is.scripts in
-    c.call_is_ready.ensures t h m p is stands agrees (MatchOption-at_some (Unit {0}) (NamesItsFence t) c.in-Some.call.now (sym c.in-Some.ensures) names)
+    let names = first_names t c.args.self.now.scripts c.args.lane
+    (get_or c.args.self.now.lanes.items c.args.lane []) lawful is.scripts in
+    c.call_is_ready.ensures t h m p is stands agrees
+    (MatchOption-at_some (Unit {0}) (NamesItsFence t) c.in-Some.call.now (sym c.in-Some.ensures) names)
     ∙ ap (λ (o : Option Call). option_map_or (ready_call p h.events h.queues) o false) c.in-Some.ensures
     ∙ sym (lane_starts_is t h c.args.self.now p c.args.lane is)

@@ -4,12 +4,15 @@ use Rattle.sv_hub.proofs.Changes.{changed_by, changed_map, changed_whole, same_m
 use Rattle.sv_hub.proofs.hub.HubAudience.deliver.Goals as goal
 
 pub hear_all-requires : goal.hear_all-requires
-hear_all-requires g c = λ k d within. (let room = seen_each _ (λ a. 1 ≤ a.spare) _ _ c.as_mut_slice.ensures.value c.requires k d within in omega arith)
+hear_all-requires g c = λ k d within. (let room =
+    seen_each _ (λ a. 1 ≤ a.spare) _ _ c.as_mut_slice.ensures.value c.requires k d within in omega arith)
 
 pub invariant_of-self : goal.invariant_of-self
 invariant_of-self g c = record {
   numbered = subst (AreNumbered c.args.self.now.next)
-      (sym (same_map (λ e. e.number) _ _ (changed_by _ _ _ _ (λ a b h. h.number) (changed_whole _ _ _ _ _ c.as_mut_slice.ensures.value c.as_mut_slice.ensures.len c.hear_all.ensures))))
+      (sym (same_map (λ e. e.number) _ _ (changed_by _ _ _ _ (λ a b h. h.number)
+      (changed_whole _ _ _ _ _ c.as_mut_slice.ensures.value c.as_mut_slice.ensures.len
+      c.hear_all.ensures))))
       c.args.self.now.numbered;
 }
 
@@ -22,4 +25,5 @@ returns-clause-heard g c = record {
 
 pub returns-clause-room : goal.returns-clause-room
 returns-clause-room g c =
-    changed_map _ _ _ _ (changed_by _ _ _ _ (λ a b h. h.room) (changed_whole _ _ _ _ _ c.as_mut_slice.ensures.value c.as_mut_slice.ensures.len c.hear_all.ensures))
+    changed_map _ _ _ _ (changed_by _ _ _ _ (λ a b h. h.room)
+    (changed_whole _ _ _ _ _ c.as_mut_slice.ensures.value c.as_mut_slice.ensures.len c.hear_all.ensures))

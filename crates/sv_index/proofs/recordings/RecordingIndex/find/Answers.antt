@@ -10,8 +10,10 @@ unfolding IsIndexOf
 returns-in-Some c =
     c.recording_at.ensures
     ∙ ap (λ (rs : List Recording). slice_get rs c.in-Some.place) c.as_slice.ensures
-    ∙ sym (told c.args.trace.now.recordings c.args.number c.in-Some.place _ (c.requires c.args.number) (sym c.place_of.ensures ∙ c.in-Some.is))
+    ∙ sym (told c.args.trace.now.recordings c.args.number c.in-Some.place _ (c.requires c.args.number)
+    (sym c.place_of.ensures ∙ c.in-Some.is))
 
 pub returns-in-None : goal.returns-in-None
 unfolding IsIndexOf
-returns-in-None c = sym (told_none c.args.trace.now.recordings c.args.number _ (c.requires c.args.number) (sym c.place_of.ensures ∙ c.in-None.is))
+returns-in-None c = sym (told_none c.args.trace.now.recordings c.args.number _ (c.requires c.args.number)
+    (sym c.place_of.ensures ∙ c.in-None.is))

@@ -6,4 +6,5 @@ use Rattle.sv_index.proofs.recordings.RecordingIndex.new.Goals as goal
 
 pub returns : goal.returns
 unfolding IsIndexOf
-returns c = subst (λ (rs : List Recording). ArePlaces rs c.in_ok-places.places) c.as_slice.ensures c.in_ok-places.ensures
+returns c = subst (λ (rs : List Recording). ArePlaces rs c.in_ok-places.places) c.as_slice.ensures
+    c.in_ok-places.ensures

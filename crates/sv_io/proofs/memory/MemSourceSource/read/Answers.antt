@@ -13,5 +13,10 @@ returns-in-Some-clause-bytes c =
     let fits : n ≤ length (drop p s) = omega (arith, length-drop {A = ℕ}) in
     let same : p + n - p ≡ n = omega arith in
     let given : drop p s ≡ take n (c.copy_from_slice.new.self ++ drop n c.args.buf.now) ++ drop n (drop p s) =
-    gives (drop p s) c.copy_from_slice.new.self c.args.buf.now n fits (c.copy_from_slice.ensures.after ∙ ap (λ xs. take (p + n - p) (drop p xs)) c.deref.ensures.value ∙ ap (λ k. take k (drop p s)) same) in
-    (sym left_is ∙ given ∙ ap (λ xs. take n (c.copy_from_slice.new.self ++ drop n c.args.buf.now) ++ xs) (drop-drop n p s), λ z w. drop_all (p + n) s (omega (arith, c.in-Some.ensures.some c.requires)))
+    gives (drop p s) c.copy_from_slice.new.self c.args.buf.now n fits
+    (c.copy_from_slice.ensures.after ∙ ap (λ xs. take (p + n - p) (drop p xs)) c.deref.ensures.value
+    ∙ ap (λ k. take k (drop p s)) same) in (
+      sym left_is ∙ given ∙ ap (λ xs. take n (c.copy_from_slice.new.self ++ drop n c.args.buf.now) ++ xs)
+          (drop-drop n p s),
+      λ z w. drop_all (p + n) s (omega (arith, c.in-Some.ensures.some c.requires)),
+    )

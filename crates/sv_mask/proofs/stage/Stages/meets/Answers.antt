@@ -4,4 +4,5 @@ use Rattle.sv_mask.proofs.SetLemmas.{meets_test}
 use Rattle.sv_mask.proofs.stage.Stages.meets.Goals as goal
 
 pub returns : goal.returns
-returns c = rw c.intersects.ensures (meets_test c.args.self.0 c.args.other.0 (let le = and_le_l c.args.self.0 c.args.other.0 in omega arith))
+returns c = rw c.intersects.ensures (meets_test c.args.self.0 c.args.other.0
+    (let le = and_le_l c.args.self.0 c.args.other.0 in omega arith))

@@ -7,7 +7,8 @@ pub returns-then-is_pair-clause-exact : goal.returns-then-is_pair-clause-exact
 unfolding usage_of
 returns-then-is_pair-clause-exact c =
     let test = is_pair (stage_number c.args.stage) (access_number c.args.access) in
-    sym (find-first_below test 0 43 c.loop-number.number c.loop-number.number (omega arith) (omega arith) (λ k low high. c.loop-number.invariant k high) (search rules))
+    sym (find-first_below test 0 43 c.loop-number.number c.loop-number.number (omega arith) (omega arith)
+    (λ k low high. c.loop-number.invariant k high) (search rules))
 
 pub returns-clause-exact : goal.returns-clause-exact
 unfolding usage_of

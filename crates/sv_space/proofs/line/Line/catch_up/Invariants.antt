@@ -13,9 +13,16 @@ invariant-loop-place l = record {
   same : IsSameLine l.initial.self l.self;
   spans : HaveSameSpans l.initial.self.pieces.parts.items l.self.pieces.parts.items;
   within : AreWithin (length l.log) l.self.pieces.parts.items;
-  stands : (work : List Step) → AreNumbered work → l.log ≡ groups_in work → IsLineOf work l.initial.self.res l.initial.self.shape l.initial.self.pieces.parts.items → IsLineOf work l.initial.self.res l.initial.self.shape l.self.pieces.parts.items;
-  changed : (k : ℕ) (d : Part Known) → (get_or l.self.pieces.parts.items k d ≡ get_or l.initial.self.pieces.parts.items k d) ⊎ ((get_or l.self.pieces.parts.items k d).value.upto ≡ length l.log);
-  others : (k : ℕ) (d : Part Known) → (Contains l.places k → ⊥) → get_or l.self.pieces.parts.items k d ≡ get_or l.initial.self.pieces.parts.items k d;
-  none : ((k : ℕ) (d : Part Known) → Contains l.places k → (get_or l.initial.self.pieces.parts.items k d).value.upto ≡ length l.log) → l.given ≡ 0;
-  caught : (j e : ℕ) (d : Part Known) → j < l.place-index → (get_or l.self.pieces.parts.items (get_or l.places j e) d).value.upto ≡ length l.log;
+  stands : (work : List Step) → AreNumbered work → l.log ≡ groups_in work
+      → IsLineOf work l.initial.self.res l.initial.self.shape l.initial.self.pieces.parts.items
+      → IsLineOf work l.initial.self.res l.initial.self.shape l.self.pieces.parts.items;
+  changed : (k : ℕ) (d : Part Known) → (get_or l.self.pieces.parts.items k d
+      ≡ get_or l.initial.self.pieces.parts.items k d)
+      ⊎ ((get_or l.self.pieces.parts.items k d).value.upto ≡ length l.log);
+  others : (k : ℕ) (d : Part Known) → (Contains l.places k → ⊥) → get_or l.self.pieces.parts.items k d
+      ≡ get_or l.initial.self.pieces.parts.items k d;
+  none : ((k : ℕ) (d : Part Known) → Contains l.places k
+      → (get_or l.initial.self.pieces.parts.items k d).value.upto ≡ length l.log) → l.given ≡ 0;
+  caught : (j e : ℕ) (d : Part Known) → j < l.place-index
+      → (get_or l.self.pieces.parts.items (get_or l.places j e) d).value.upto ≡ length l.log;
 }

@@ -7,5 +7,7 @@ use Rattle.sv_space.proofs.space.Space.pieces.Goals as goal
 pub returns : goal.returns
 unfolding pieces_in
 returns c =
-    let long : length c.deref-line-items.result.now ≡ length c.args.self.now.lines.items = ap length c.deref-line-items.ensures.value in
-    whole pieces_on c.args.self.now.lines.items c.loop-line.line-index c.loop-line.all (omega arith) c.loop-line.invariant
+    let long : length c.deref-line-items.result.now ≡ length c.args.self.now.lines.items =
+    ap length c.deref-line-items.ensures.value in
+    whole pieces_on c.args.self.now.lines.items c.loop-line.line-index c.loop-line.all
+    (omega arith) c.loop-line.invariant

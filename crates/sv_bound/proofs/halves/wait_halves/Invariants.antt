@@ -1,6 +1,0 @@
-use Rattle.std.proofs.Common.{◌≡◌, ◌+◌, take}
-use Rattle.sv_model.specs.Binding as spec
-use Rattle.sv_bound.proofs.halves.wait_halves.Given as goal
-
-abbrev pub invariant-loop-group : goal.invariant-loop-group
-invariant-loop-group l = (l.halves ≡ spec.with_tokens (spec.wait_half l.place) l.token (take l.group-index l.groups)) × (l.next ≡ l.token + l.group-index)

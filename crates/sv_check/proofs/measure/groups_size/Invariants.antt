@@ -1,7 +1,0 @@
-use Rattle.std.proofs.Common.{◌≡◌, take, sum_by}
-use Rattle.sv_model.specs.Size.{group_size}
-use Rattle.sv_check.specs.Extents.{capped}
-use Rattle.sv_check.proofs.measure.groups_size.Given as goal
-
-abbrev pub invariant-loop-group : goal.invariant-loop-group
-invariant-loop-group l = l.size ≡ capped (sum_by group_size (take l.group-index l.groups))

@@ -1,7 +1,0 @@
-use Rattle.std.proofs.Common.{◌≡◌, take, sum_by}
-use Rattle.sv_rules.specs.Taken.{size_in}
-use Rattle.sv_check.specs.Extents.{capped}
-use Rattle.sv_check.proofs.sizes.recs_size.Given as goal
-
-abbrev pub invariant-loop-rec : goal.invariant-loop-rec
-invariant-loop-rec l = l.size ≡ capped (sum_by (size_in l.checker.trace) (take l.rec-index l.recs))

@@ -1,6 +1,0 @@
-//! What the steps of a work report, and their notes.
-#![tactic(auto)]
-
-mod checks;
-
-pub use checks::Checks;

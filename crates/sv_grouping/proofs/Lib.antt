@@ -1,2 +1,0 @@
-pub mod GroupedReplies
-pub mod Numbers

@@ -1,5 +1,0 @@
-use Rattle.sv_onward.proofs.WholeReplies.{replies_are_whole}
-use Rattle.sv_onward.proofs.replies_are_whole.Goals as goal
-
-pub returns : goal.returns
-returns c = replies_are_whole

@@ -1,5 +1,0 @@
-use Rattle.sv_onward.proofs.WholeReplies.{replies_go_on}
-use Rattle.sv_onward.proofs.replies_go_on.Goals as goal
-
-pub returns : goal.returns
-returns c = replies_go_on

@@ -1,5 +1,0 @@
-use Rattle.sv_onward.proofs.Onward.{ways_go_on}
-use Rattle.sv_onward.proofs.ways_go_on.Goals as goal
-
-pub returns : goal.returns
-returns c = ways_go_on

@@ -1,5 +1,0 @@
-use Rattle.sv_onward.proofs.Onward.{ways_have_events}
-use Rattle.sv_onward.proofs.ways_have_events.Goals as goal
-
-pub returns : goal.returns
-returns c = ways_have_events

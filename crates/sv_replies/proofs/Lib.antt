@@ -1,0 +1,3 @@
+pub mod ReportsGoOn
+pub mod NotesGoOn
+pub mod GoesOn

@@ -1,0 +1,18 @@
+-- What holds of the steps of a lawful trace, and of numbered steps.
+use Rattle.std.specs.Prelude.{ℕ}
+use Rattle.std.specs.List.{All}
+use Rattle.sv_model.specs.Recordings.{compile}
+use Rattle.sv_model.specs.Lawful.{IsLawful}
+use Rattle.sv_model.specs.Positions.{numbered_step}
+use Rattle.sv_model.specs.declared.line.Trace.{Trace}
+use Rattle.sv_model.specs.declared.work.Step.{Step}
+use Rattle.sv_space.specs.Steps.{IsNext}
+use Rattle.sv_step_laws.specs.Steps.{IsStepOf}
+
+-- The steps of a recording of a lawful trace lie inside its resources.
+abbrev pub LawfulStepsAreInside : Type 0
+LawfulStepsAreInside = (t : Trace) (k : ℕ) → IsLawful t → All (IsStepOf t) (compile t k)
+
+-- A numbered step has its number, and its accesses and transitions their positions.
+abbrev pub NumberedStepsAreNext : Type 0
+NumberedStepsAreNext = (n : ℕ) (s : Step) → IsNext n (numbered_step n s)

@@ -1,3 +1,0 @@
-pub mod OneStep
-pub mod Turned
-pub mod StepDone
