@@ -120,7 +120,7 @@ fn any_transfers_wrongly(family: Option<u32>, inside: bool, deps: &[Element]) ->
 fn any_transfers(deps: &[Element]) -> bool
     ensures { result ≡ list_any spec.transfers deps.now }
 {
-    deps.iter().any(transfers)
+    deps.iter().any(|e| transfers(e))
 }
 
 fn has_wrong_transfer(taken: &TakenLines, line: &Line) -> bool
@@ -165,7 +165,7 @@ fn is_forbidden_inside(taken: &TakenLines, line: &Line) -> bool
 fn any_leaves_subpass(deps: &[Element]) -> bool
     ensures { result ≡ list_any spec.leaves_subpass deps.now }
 {
-    deps.iter().any(leaves_subpass)
+    deps.iter().any(|e| leaves_subpass(e))
 }
 
 fn breaks_subpass(taken: &TakenLines, line: &Line) -> bool

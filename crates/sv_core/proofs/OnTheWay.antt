@@ -1,5 +1,6 @@
 -- From a history to the next: before any item of the event, after one more, after the last.
-use Rattle.std.proofs.Common.{ℕ, ◌≡◌, List, [], ◌++◌, Some, length, refl, sym, ap, subst, arith, append-nil}
+use Rattle.std.proofs.Common.{ℕ, ◌≡◌, List, [], ◌++◌, None, Some, length, refl, sym, ap, subst, arith}
+use Rattle.std.proofs.Common.{append-nil}
 use Rattle.std.proofs.lemmas.List.{length-map}
 use Rattle.std.proofs.lemmas.List.Elements.{All-nil}
 use Rattle.sv_model.specs.Places.{Bound}

@@ -17,7 +17,7 @@ use sv_range::{Duplicate, List};
 
 /// The validator of a trace: it takes in the events of a history one by one, and answers the reports and
 /// notes of the steps that each of them releases. Contracts see its trace, its history, its replies, whether
-/// it is spent, and its space, which, unless it is spent, stands for the work of the history.
+/// it is spent, and the numbers of its space, which, unless it is spent, stands for the work of the history.
 #[derive(Drop)]
 pub struct Validator {
     trace: Trace,
@@ -28,6 +28,7 @@ pub struct Validator {
 }
 
 impl Model for Validator {
+    ghost use Rattle.sv_space.specs.Space.{pieces_in, kept_in, given_in};
     ghost use Rattle.sv_core.specs.State.{State, Holds};
 
     ghost Value = { State };
@@ -37,7 +38,9 @@ impl Model for Validator {
       history = v.history;
       replies = v.replies;
       spent = v.spent;
-      space = v.parts.work.checks.space;
+      pieces = pieces_in v.parts.work.checks.space;
+      kept = kept_in v.parts.work.checks.space;
+      given = given_in v.parts.work.checks.space;
     } };
 
     ghost invariant = { λ v. Holds v.trace v.history v.replies v.spent v.parts };
@@ -54,7 +57,6 @@ pub struct Counts {
 impl Validator {
     ghost use Rattle.sv_model.specs.Holding.{held_items};
     ghost use Rattle.sv_model.specs.Lawful.{IsLawful};
-    ghost use Rattle.sv_space.specs.Space.{pieces_in, kept_in, given_in};
     ghost use Rattle.sv_core.specs.Marks.{IsNextEvent, IsOwn, IsStop, mark_of};
     ghost use Rattle.sv_core.specs.State.{HasItsSpace};
 
@@ -140,7 +142,7 @@ impl Validator {
     /// The number of accesses that are kept for the pieces of the space, or 2^64 - 1 where it is above that.
     pub fn kept_total(&self) -> u64
         ensures stands { HasItsSpace self.now }
-        ensures number { result ≡ kept_in self.now.space }
+        ensures number { result ≡ self.now.kept }
     {
         self.parts.work.checks.space.kept_total()
     }
@@ -149,9 +151,9 @@ impl Validator {
     pub fn counts(&self) -> Counts
         ensures stands { HasItsSpace self.now }
         ensures numbers { result ≡ record {
-          pieces = pieces_in self.now.space;
+          pieces = self.now.pieces;
           installed = 0;
-          caught_up = given_in self.now.space;
+          caught_up = self.now.given;
         } }
     {
         let space = &self.parts.work.checks.space;

@@ -46,7 +46,10 @@ fn parts_are_refused(
 
 // Whether so many whole lines are answered, with the last line feed and without it.
 fn lines_are_answered(alloc: Global, whole: &[u8], count: usize) -> Result<bool, AllocError> {
-    let (number, lines, heard) = BEHIND[count];
+    let Some(behind) = BEHIND.get(count) else {
+        return Ok(false);
+    };
+    let (number, lines, heard) = *behind;
     let owed = joined(alloc, lines)?;
     if !answers(alloc, whole, number, owed.as_slice(), heard)? {
         return Ok(false);

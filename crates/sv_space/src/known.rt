@@ -1,19 +1,23 @@
 //! What is kept for the cells of a piece.
-ghost use Rattle.std.specs.Prelude.{◌≡◌, ◌+◌, ◌<◌, ◌≤◌, ℕ, Bool, List, [], false, length, drop, IfOk};
-ghost use Rattle.std.specs.Prelude.{IfSome, IsTrue, MatchOption, OnOk};
+ghost use Rattle.std.specs.Prelude.{◌≡◌, ◌+◌, ◌-◌, ◌<◌, ◌≤◌, ℕ, Bool, Contains, List, [], false, length};
+ghost use Rattle.std.specs.Prelude.{drop, slice_index_or, take, IfOk, IfSome, IsTrue, MatchOption, OnOk};
 ghost use Rattle.std.specs.Option.{option_copied};
 ghost use Rattle.sv_model.specs.Cells.{covers, IsOnly};
 ghost use Rattle.sv_model.specs.Dependencies.{IsOwn, own_deps, writes};
 ghost use Rattle.sv_model.specs.Order.{Story, IsBelow, IsClear, IsPartner, NoRaces, extended, kind_of};
 ghost use Rattle.sv_model.specs.Reports.{on_cell};
 ghost use Rattle.sv_model.specs.declared.work.Cell.{Cell};
+ghost use Rattle.sv_model.specs.declared.work.Group.{Group};
 ghost use Rattle.sv_state.specs.Contents.{Contents, contents_of};
-ghost use Rattle.sv_state.specs.States.{RangesHold};
+ghost use Rattle.sv_state.specs.Outlines.{AddsNothing};
+ghost use Rattle.sv_state.specs.States.{RangesHold, entries_of};
+ghost use Rattle.sv_state.specs.declared.entry.Entry.{Entry};
 ghost use Rattle.sv_space.specs.Meant.{StandsFor};
 ghost use Rattle.sv_space.specs.Known.{HasGone, MayFollow};
 ghost use Rattle.sv_space.specs.Own.{HaveOwnGroups, own_of};
 ghost use Rattle.sv_space.specs.Recorded.{IsRecording};
 
+use crate::log::Log;
 use crate::stepping::record_on;
 use std::alloc::{AllocError, Global};
 use std::marker::Model;
@@ -84,7 +88,7 @@ impl Known {
 
     /// Gives the state the groups that it lacks, on one cell, and tells how many those were. Where memory is
     /// missing it is only to be dropped.
-    pub fn catch_up(&mut self, log: &[Group], at: &Area) -> Result<u64, AllocError>
+    pub fn catch_up(&mut self, log: &Log, at: &Area) -> Result<u64, AllocError>
         requires { self.old.upto ≤ length log.now }
         ensures upto { OnOk result (self.new.upto ≡ length log.now) }
         ensures gone { OnOk result ((cell : Cell) → IsOnly at.now cell
@@ -92,10 +96,10 @@ impl Known {
             → HasGone cell (drop self.old.upto log.now) self.old.state self.new.state) }
         ensures given { IfOk result (λ given. given + self.old.upto ≡ length log.now) }
     {
-        let rest = &log[self.upto as usize..];
-        go_through(&mut self.state, rest, at)?;
+        let given = log.len() as u64 - self.upto;
+        go_through(&mut self.state, log, self.upto as usize, at)?;
         self.upto = log.len() as u64;
-        Ok(rest.len() as u64)
+        Ok(given)
     }
 
     /// Records a step's accesses on a cell. Its epoch begins anew where one of them races.
@@ -116,15 +120,58 @@ impl Known {
     }
 }
 
-// Gives the state these groups, on one cell.
-fn go_through(state: &mut CellState, groups: &[Group], at: &Area) -> Result<(), AllocError>
-    ensures { OnOk result ((cell : Cell) → IsOnly at.now cell → MayFollow state.old.step groups.now
-        → HasGone cell groups.now (contents_of state.old) (contents_of state.new)) }
+// Gives the state the groups from that number on, on one cell.
+fn go_through(state: &mut CellState, log: &Log, from: usize, at: &Area) -> Result<(), AllocError>
+    requires { from ≤ length log.now }
+    ensures { OnOk result ((cell : Cell) → IsOnly at.now cell → MayFollow state.old.step (drop from log.now)
+        → HasGone cell (drop from log.now) (contents_of state.old) (contents_of state.new)) }
 {
-    for group in groups {
-        state.extend(group, at)?;
+    let mut done = from;
+    while done < log.len() {
+        let next = go_on(state, log, done, at)?;
+        done = next;
     }
     Ok(())
+}
+
+// The number of the next group, from that one on, that the state has to be given: those before add nothing
+// to it.
+fn next_of(state: &CellState, log: &Log, from: usize) -> usize
+    requires { from < length log.now }
+    ensures first { from ≤ result }
+    ensures listed { result ≤ length log.now }
+    ensures passed { (number : ℕ) (d : Group) → from ≤ number → number < result
+        → AddsNothing state.now (slice_index_or log.now number d) }
+    ensures late { (d : Group) (e : Entry) → from < result → Contains (entries_of state.now) e
+        → e.access.step < (slice_index_or log.now from d).step }
+{
+    if log.group(from).step <= state.newest() {
+        from
+    } else {
+        log.next_adding(state, from)
+    }
+}
+
+// Gives the state the next group that may add to it, and passes over those before. Tells how many groups were
+// given so far.
+fn go_on(state: &mut CellState, log: &Log, done: usize, at: &Area) -> Result<usize, AllocError>
+    requires { done < length log.now }
+    ensures further { IfOk result (λ next. (done < next) × (next ≤ length log.now)) }
+    ensures gone { IfOk result (λ next. (cell : Cell) → IsOnly at.now cell
+        → MayFollow state.old.step (drop done log.now)
+        → HasGone cell (take (next - done) (drop done log.now)) (contents_of state.old)
+        (contents_of state.new)) }
+{
+    let next = next_of(state, log, done);
+    if next < log.len() {
+        let group = log.group(next);
+        state.come_to(group.step)?;
+        state.extend(group, at)?;
+        Ok(next + 1)
+    } else {
+        state.come_to(log.group(next - 1).step)?;
+        Ok(next)
+    }
 }
 
 impl Piece for Known {

@@ -9,10 +9,11 @@ ghost use Rattle.sv_space.specs.Lines.{IsShaped, IsShaped-prop, IsInMip, LiesOn,
 
 use crate::cutting::cut;
 use crate::known::Known;
+use crate::log::Log;
 use crate::places::places_of;
 use crate::shape::Shape;
 use std::alloc::{AllocError, Global};
-use sv_model::work::{Area, Cell, Group};
+use sv_model::work::{Area, Cell};
 use sv_range::{Cells, List, Span, runs};
 use sv_rangemap::RangeMap;
 
@@ -130,7 +131,7 @@ impl Line {
     }
 
     /// Gives the piece at that place the groups that it lacks, and tells how many those were.
-    fn catch_up_at(&mut self, alloc: Global, log: &[Group], index: usize) -> Result<u64, AllocError>
+    fn catch_up_at(&mut self, alloc: Global, log: &Log, index: usize) -> Result<u64, AllocError>
         requires listed { index < length self.old.pieces.parts.items }
         requires within { AreWithin (length log.now) self.old.pieces.parts.items }
         ensures line { IsSameLine self.old self.new }
@@ -158,12 +159,7 @@ impl Line {
     }
 
     /// Gives the pieces at these places the groups that they lack, and tells how many those were.
-    fn catch_up(
-        &mut self,
-        alloc: Global,
-        log: &[Group],
-        places: &[usize],
-    ) -> Result<u64, AllocError>
+    fn catch_up(&mut self, alloc: Global, log: &Log, places: &[usize]) -> Result<u64, AllocError>
         requires listed { (k : ℕ) → Contains places.now k → k < length self.old.pieces.parts.items }
         requires within { AreWithin (length log.now) self.old.pieces.parts.items }
         ensures line { IsSameLine self.old self.new }
@@ -192,7 +188,7 @@ impl Line {
 
     /// Makes pieces begin and end where the area does, gives those inside the groups that they lack, and
     /// tells how many those were.
-    pub fn prepare(&mut self, alloc: Global, log: &[Group], area: Area) -> Result<u64, AllocError>
+    pub fn prepare(&mut self, alloc: Global, log: &Log, area: Area) -> Result<u64, AllocError>
         requires lies { LiesOn self.old.res self.old.shape self.old.pieces.size area }
         requires within { AreWithin (length log.now) self.old.pieces.parts.items }
         ensures line { IsSameLine self.old self.new }

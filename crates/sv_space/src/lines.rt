@@ -17,6 +17,7 @@ ghost use Rattle.sv_space.specs.declared.line.Line.{Line};
 
 use crate::cutting::cut;
 use crate::line::Line;
+use crate::log::Log;
 use std::alloc::{AllocError, Global};
 use sv_model::work::{Access, Area, Group};
 
@@ -61,7 +62,7 @@ pub fn place_of(lines: &[Line], area: Area) -> usize
 fn prepare_area(
     alloc: Global,
     lines: &mut Vec<Line>,
-    log: &[Group],
+    log: &Log,
     area: Area,
 ) -> Result<u64, AllocError>
     requires sorted { AreSorted lines.old.items }
@@ -87,7 +88,7 @@ fn prepare_area(
 pub fn prepare(
     alloc: Global,
     lines: &mut Vec<Line>,
-    log: &[Group],
+    log: &Log,
     accesses: &[Access],
 ) -> Result<u64, AllocError>
     requires sorted { AreSorted lines.old.items }

@@ -1,9 +1,96 @@
 //! The groups of the work, which pieces go through late.
-ghost use Rattle.std.specs.Prelude.{◌≡◌, IfOk};
+ghost use Rattle.std.specs.Prelude.{◌≡◌, ◌∷◌, ◌++◌, ◌<◌, ◌≤◌, [], ℕ, IfOk, OnOk, length, slice_index_or};
+ghost use Rattle.sv_model.specs.declared.work.Group.{Group};
+ghost use Rattle.sv_state.specs.Outlines.{AddsNothing};
 
+use crate::marks::mark;
+use crate::passing::next_in;
+use crate::pattern::{Pattern, number_of};
 use std::alloc::{AllocError, Global};
+use std::marker::Model;
 use sv_model::work::Group;
 use sv_range::List;
+use sv_state::CellState;
+
+/// The groups of the work, in order, which contracts see. By the numbers of their patterns a state passes
+/// over what adds nothing to it.
+#[derive(Drop)]
+pub struct Log {
+    groups: Vec<Group>,
+    patterns: Vec<Pattern>,
+    numbers: Vec<u8>,
+    blocks: Vec<u64>,
+}
+
+impl Model for Log {
+    ghost use Rattle.std.specs.Prelude.{List};
+    ghost use Rattle.sv_model.specs.declared.work.Group.{Group};
+    ghost use Rattle.sv_space.specs.Patterns.{HavePatterns};
+
+    ghost Value = { List Group };
+
+    ghost view = { λ it. it.groups.items };
+
+    ghost invariant = { λ it. HavePatterns it.groups.items it.patterns.items it.numbers.items
+        it.blocks.items };
+}
+
+impl Log {
+    /// No group yet.
+    pub fn new(alloc: Global) -> Log
+        ensures { result ≡ [] }
+    {
+        Log {
+            groups: Vec::new(alloc),
+            patterns: Vec::new(alloc),
+            numbers: Vec::new(alloc),
+            blocks: Vec::new(alloc),
+        }
+    }
+
+    /// The number of groups.
+    pub fn len(&self) -> usize
+        ensures { result ≡ length self.now }
+    {
+        self.groups.len()
+    }
+
+    /// The group with that number.
+    pub fn group(&self, number: usize) -> &Group
+        requires { number < length self.now }
+        ensures { (d : Group) → result.now ≡ slice_index_or self.now number d }
+    {
+        &self.groups[number]
+    }
+
+    /// Puts a group at the end.
+    pub fn push(&mut self, alloc: Global, group: &Group) -> Result<(), AllocError>
+        ensures all { OnOk result (self.new ≡ self.old ++ group.now ∷ []) }
+        ensures longer { length self.old ≤ length self.new }
+    {
+        let number = number_of(alloc, &mut self.patterns, group)?;
+        let copied = copy_group(alloc, group)?;
+        self.groups.push(copied)?;
+        // Where a number was lost for want of memory, the later ones would be of other groups.
+        if self.numbers.len() + 1 == self.groups.len() {
+            mark(&mut self.blocks, self.numbers.len(), number)?;
+            self.numbers.push(number)?;
+        }
+        Ok(())
+    }
+
+    /// The number of the next group, from that one on, that may add to the state; the number of groups where
+    /// none does.
+    pub fn next_adding(&self, state: &CellState, from: usize) -> usize
+        requires { from ≤ length self.now }
+        ensures first { from ≤ result }
+        ensures listed { result ≤ length self.now }
+        ensures passed { (number : ℕ) (d : Group) → from ≤ number → number < result
+            → AddsNothing state.now (slice_index_or self.now number d) }
+    {
+        next_in(state, &self.patterns, &self.numbers, &self.blocks, from)
+    }
+}
 
 fn copy_list<T: Copy>(alloc: Global, list: &List<T>) -> Result<List<T>, AllocError>
     ensures { IfOk result (λ copied. copied ≡ list.now) }

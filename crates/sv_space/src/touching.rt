@@ -17,7 +17,7 @@ ghost use Rattle.sv_space.specs.declared.line.Line.{Line};
 use crate::finding::find;
 use crate::line::Line;
 use crate::lines::place_of;
-use crate::log::copy_group;
+use crate::log::Log;
 use crate::own::own_group;
 use crate::recording::record;
 use std::alloc::{AllocError, Global};
@@ -105,13 +105,12 @@ pub fn record_all(
 }
 
 /// Puts the groups of a step into the log.
-pub fn append(alloc: Global, log: &mut Vec<Group>, groups: &[Group]) -> Result<(), AllocError>
-    ensures all { OnOk result (log.new.items ≡ log.old.items ++ groups.now) }
-    ensures longer { length log.old.items ≤ length log.new.items }
+pub fn append(alloc: Global, log: &mut Log, groups: &[Group]) -> Result<(), AllocError>
+    ensures all { OnOk result (log.new ≡ log.old ++ groups.now) }
+    ensures longer { length log.old ≤ length log.new }
 {
     for group in groups {
-        let copied = copy_group(alloc, group)?;
-        log.push(copied)?;
+        log.push(alloc, group)?;
     }
     Ok(())
 }

@@ -19,8 +19,7 @@ use Rattle.sv_model.specs.declared.work.Group.{Group}
 use Rattle.sv_state.specs.declared.entry.Entry.{Entry}
 use Rattle.sv_state.specs.declared.state.CellState.{CellState}
 use Rattle.sv_state.specs.Alike.{is_alike}
-use Rattle.sv_state.specs.declared.mask.Mask.{Mask}
-use Rattle.sv_state.specs.Masks.{AreReached, Stands}
+use Rattle.sv_state.specs.Masks.{AreReached, AreReachedBeside, Stands}
 use Rattle.sv_state.specs.Contents.{Contents, Item, contents_of, item_of}
 use Rattle.sv_state.specs.States.{AreListed, IsAtReads, AreParted, EachStands, entries_of, StandsFor}
 use Rattle.sv_state.specs.States.{AreLikeLast, AllChanged, HasAdvanced, HasGoneOn, HasComeTo, HasGrown}
@@ -97,6 +96,15 @@ changed_both R olds news more after first second = record {
       ]);
 }
 
+-- each new entry is of the access of an old one
+pub access_before : (R : Entry → Entry → Type 0) (same : (e f : Entry) → R e f → f.access ≡ e.access)
+    (olds news more after : List Entry) → AllChanged R olds news → AllChanged R more after → (e : Entry)
+    → Contains (news ++ after) e → (f : Entry) × Contains (olds ++ more) f × (f.access ≡ e.access)
+access_before R same olds news more after first second e on =
+    let f = to_old R same (olds ++ more) (news ++ after)
+    (changed_both R olds news more after first second) e on in
+    (f.0, f.1, sym (same f.0 e f.2))
+
 parted_stays : (R : Entry → Entry → Type 0) (same : (e f : Entry) → R e f → f.access ≡ e.access)
     (xs : List Access) (olds news more after : List Entry) → AllChanged R olds news
     → AllChanged R more after → AreParted xs olds more → AreParted xs news after
@@ -165,7 +173,8 @@ stands_same_item cell deps step e f same st = record {
   up_to = st.up_to;
   settled = subst (λ (i : Item). AreReached deps cell e.access (λ k. k < step) i.settled)
       (sym same) st.settled;
-  fresh = subst (λ (i : Item). AreReached deps cell e.access (λ k. k ≡ step) i.fresh) (sym same) st.fresh;
+  fresh = subst (λ (i : Item). AreReachedBeside deps cell e.access (λ k. k ≡ step) i.settled i.fresh)
+      (sym same) st.fresh;
 }
 
 -- a state that holds the same stands for the same

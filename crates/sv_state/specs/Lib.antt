@@ -3,3 +3,4 @@ pub mod Masks
 pub mod States
 pub mod Alike
 pub mod Contents
+pub mod Outlines

@@ -10,6 +10,7 @@ mod entry;
 mod keeping;
 mod key;
 mod mask;
+mod outlines;
 mod reached;
 mod set;
 mod settled;
@@ -17,4 +18,5 @@ mod state;
 #[cfg(test)]
 mod tests;
 
+pub use outlines::outline;
 pub use state::CellState;

@@ -1,6 +1,6 @@
 //! What dependency chains from one access reach.
-ghost use Rattle.std.specs.Prelude.{◌≡◌, [], ◌∷◌, ◌++◌, ◌<◌, ◌≤◌, ℕ, IsTrue, ◌↔◌, ◌⊎◌, IfOk, OnOk, List};
-ghost use Rattle.std.specs.Prelude.{Contains};
+ghost use Rattle.std.specs.Prelude.{◌≡◌, [], ◌∷◌, ◌++◌, ◌<◌, ◌≤◌, ℕ, true, false, IsTrue, ◌↔◌, ◌⊎◌, IfOk};
+ghost use Rattle.std.specs.Prelude.{OnOk, List, Contains};
 ghost use Rattle.sv_mask.specs.Sets.{Has};
 ghost use Rattle.sv_model.specs.Cells.{Within};
 ghost use Rattle.sv_model.specs.Dependencies.{Placed, IsOwn, InFirst, Starts, StartsByUse, Enters, Chain};
@@ -9,16 +9,17 @@ ghost use Rattle.sv_model.specs.Dependencies as chain;
 ghost use Rattle.sv_model.specs.declared.work.Access.{Access};
 ghost use Rattle.sv_model.specs.declared.work.Cell.{Cell};
 ghost use Rattle.sv_model.specs.declared.work.What.{What};
-ghost use Rattle.sv_state.specs.Masks.{Stands, LeadsInto};
+ghost use Rattle.sv_state.specs.Masks.{Holds, LeadsInto, Mark, Marked, Stands};
+ghost use Rattle.sv_state.specs.Outlines.{IsQuiet, outline};
 ghost use Rattle.sv_state.specs.Tokens.{masks_of};
 
-use crate::mask::{Masks, add, is_on, leads_into, marked_on, mask_of, within};
+use crate::mask::{Mask, Masks, add, cover, is_on, leads_into, marked_on, mask_of, within};
 use crate::set::{has_stage_of, has_usage};
 use crate::settled::Settled;
 use std::alloc::{AllocError, Global};
 use sv_mask::{Usage, is_write};
 use sv_model::same::is_same_access;
-use sv_model::work::{Access, Cell, Dep, Group, What};
+use sv_model::work::{Access, Cell, Dep, Group, Track, What};
 
 /// What chains from one access reach: by the steps before the one that its state has come to, and
 /// by that step itself. They are kept apart since the groups of one step are not linked.
@@ -82,6 +83,18 @@ fn starts(a: &Access, group: &Group, d: &Dep, held: bool) -> bool
     match a.what {
         What::Use(u) => starts_by_use(a, group, d, held, u),
         What::Transition => is_own(a, group),
+    }
+}
+
+/// Whether a chain from the access may begin with a dependency from a queue, of a group that is later,
+/// which has this outline.
+fn may_start(a: &Access, d: &Dep) -> bool
+    ensures { result ≡ false → (cell : Cell) (n : Placed) → d.now.from ≡ n.dep.from → d.now ≡ outline n.dep
+        → a.now.step < n.group.step → Starts cell a.now n → ⊥ }
+{
+    match a.what {
+        What::Use(u) => is_on(a, d.from) && starts_scope(d, true, u),
+        What::Transition => false,
     }
 }
 
@@ -209,5 +222,32 @@ impl Reached {
             }
         }
         false
+    }
+
+    /// Whether a chain from the access may go into a dependency of a later group which has this outline.
+    fn may_enter(&self, a: &Access, d: &Dep) -> bool
+        ensures { result ≡ false → (cell : Cell) (deps : List Placed) (step : ℕ) (n : Placed) → d.now
+            ≡ outline n.dep → a.now.step < n.group.step
+            → Stands cell a.now deps step self.now → Enters deps (Starts cell a.now) n → ⊥ }
+    {
+        match d.from {
+            Track::Queue(_) => may_start(a, d) || self.leads(d),
+            _ => true,
+        }
+    }
+
+    /// Whether all that the mask has is reached.
+    fn cover(&self, m: Mask) -> bool
+        ensures { result ≡ true → (k : Mark) → Marked m k → Holds (masks_of self.now.settled) m.track k
+            ⊎ Holds self.now.fresh.items m.track k }
+    {
+        self.settled.cover(m) || cover(&self.fresh, m)
+    }
+
+    /// Whether a dependency of a later group which has this outline may add to what is reached.
+    pub fn adds(&self, a: &Access, d: &Dep) -> bool
+        ensures { result ≡ false → IsQuiet a.now self.now d.now }
+    {
+        self.may_enter(a, d) && !self.cover(mask_of(d, true))
     }
 }

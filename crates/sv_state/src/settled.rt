@@ -1,10 +1,10 @@
 //! What is reached by the steps before the present one.
 ghost use Rattle.std.specs.Prelude.{◌≡◌, [], IsTrue, true, ◌↔◌, IfOk, OnOk};
 ghost use Rattle.sv_model.specs.declared.work.Track.{Track};
-ghost use Rattle.sv_state.specs.Masks.{Adds, Joins, LeadsInto, mark_for, ShownTo};
+ghost use Rattle.sv_state.specs.Masks.{Adds, Holds, Joins, LeadsInto, Mark, Marked, mark_for, ShownTo};
 ghost use Rattle.sv_state.specs.Tokens.{GoesOn, LeadsFrom, SomeLeads, masks_of, runs_masks};
 
-use crate::mask::{Mask, Masks, add, leads_into, marked_on};
+use crate::mask::{Mask, Masks, add, cover, leads_into, marked_on};
 use std::alloc::{AllocError, Global};
 use sv_mask::{Stages, Usage, Usages};
 use sv_model::work::{Access, Dep, Track};
@@ -140,5 +140,12 @@ impl Settled {
         ensures { IsTrue result ↔ ShownTo x.now (mark_for write u.0) (masks_of self.now) }
     {
         marked_on(&self.masks, x, write, u)
+    }
+
+    /// Whether all that m has is reached by one mask. Runs of tokens are not looked at.
+    pub fn cover(&self, m: Mask) -> bool
+        ensures { result ≡ true → (k : Mark) → Marked m k → Holds (masks_of self.now) m.track k }
+    {
+        cover(&self.masks, m)
     }
 }

@@ -1,6 +1,6 @@
 //! The state of a cell.
-ghost use Rattle.std.specs.Prelude.{◌≡◌, [], ◌++◌, ◌<◌, ◌≤◌, ◌+◌, ◌*◌, true, ℕ, List, length, IsTrue};
-ghost use Rattle.std.specs.Prelude.{Contains, IfSome, MatchOption, OnOk, IfErr, IfOk};
+ghost use Rattle.std.specs.Prelude.{◌≡◌, [], ◌++◌, ◌<◌, ◌≤◌, ◌+◌, ◌*◌, true, false, ℕ, List, length};
+ghost use Rattle.std.specs.Prelude.{IsTrue, Contains, IfSome, MatchOption, OnOk, IfErr, IfOk};
 ghost use Rattle.std.specs.Option.{option_copied};
 ghost use Rattle.sv_model.specs.Cells.{covers, IsOnly};
 ghost use Rattle.sv_model.specs.Dependencies.{Placed, IsOwn, own_deps, writes};
@@ -11,10 +11,12 @@ ghost use Rattle.sv_model.specs.declared.work.Access.{Access};
 ghost use Rattle.sv_model.specs.declared.work.Cell.{Cell};
 
 use crate::copying::copies_of;
-use crate::entry::{Entry, advance_all, extend_all, last_racing, last_racing_alike};
+use crate::entry::{
+    Entry, advance_all, extend_all, last_racing, last_racing_alike, newest_of, some_add,
+};
 use crate::keeping::{all_alike, entries_of, last_of_keys, some_writes, take_place};
 use std::alloc::{AllocError, Global};
-use sv_model::work::{Access, Area, Cell, Group, Partner};
+use sv_model::work::{Access, Area, Cell, Dep, Group, Partner};
 
 /// What is kept of the accesses of a cell since its epoch began, each with what dependency chains reach
 /// from it: the accesses of the last step that writes, and of the reads at later steps the last of each
@@ -53,6 +55,7 @@ impl CellState {
     ghost use Rattle.sv_state.specs.States.{IsLastUndirected};
     ghost use Rattle.sv_state.specs.States as spec;
     ghost use Rattle.sv_state.specs.Contents.{contents_of};
+    ghost use Rattle.sv_state.specs.Outlines.{ArePassed, AreQuiet, AreUpTo};
 
     /// The state of a cell before any work. It takes no memory.
     pub fn new(alloc: Global) -> CellState
@@ -205,9 +208,29 @@ impl CellState {
         }
     }
 
-    /// A later step begins.
-    fn advance(&mut self, step: u64) -> Result<(), AllocError>
-        ensures { OnOk result (self.old.step ≤ step → HasComeTo step self.old self.new) }
+    /// A step after which no access of the state is.
+    pub fn newest(&self) -> u64
+        ensures { AreUpTo result (spec.entries_of self.now) }
+    {
+        let newest = newest_of(&self.written, 0);
+        newest_of(&self.reads, newest)
+    }
+
+    /// Whether a group that is later than all accesses of the state, with dependencies of these outlines,
+    /// may add to what they reach.
+    pub fn adds(&self, outlines: &[Dep]) -> bool
+        ensures { result ≡ false → AreQuiet (spec.entries_of self.now) outlines.now }
+    {
+        some_add(&self.written, outlines) || some_add(&self.reads, outlines)
+    }
+
+    /// A later step begins. Dependencies that add nothing may be passed over up to there. Where memory is
+    /// missing the state is only to be dropped.
+    pub fn come_to(&mut self, step: u64) -> Result<(), AllocError>
+        ensures comes { OnOk result (self.old.step ≤ step → HasComeTo step self.old self.new) }
+        ensures passes { OnOk result (self.old.step ≤ step
+            → (story : Story) (epoch : ℕ) (more : List Placed) → StandsFor story epoch self.old
+            → ArePassed story step self.old more → StandsFor (extended story more) epoch self.new) }
     {
         if self.step < step {
             advance_all(&mut self.written)?;
@@ -223,7 +246,7 @@ impl CellState {
         ensures { OnOk result ((cell : Cell) → IsOnly at.now cell → self.old.step ≤ group.now.step
             → HasGrown cell group.now self.old self.new) }
     {
-        self.advance(group.step)?;
+        self.come_to(group.step)?;
         let cell = cell_of(at);
         extend_all(&mut self.written, group, cell)?;
         extend_all(&mut self.reads, group, cell)?;

@@ -1,22 +1,31 @@
-use Rattle.std.proofs.Common.{arith, sym, subst}
-use Rattle.std.proofs.lemmas.List.{take_all}
+use Rattle.std.proofs.Common.{arith}
 use Rattle.sv_state.specs.Contents.{contents_of}
-use Rattle.sv_space.specs.Known.{HasGone}
-use Rattle.sv_space.proofs.Keeping.{gone_none, gone_next}
+use Rattle.sv_space.proofs.PassedOver.{gone_on, may_on, none_taken, rest_taken}
 use Rattle.sv_space.proofs.known.go_through.Goals as goal
 
-pub loop-group-init : goal.loop-group-init
-loop-group-init c = λ cell only may. gone_none cell (contents_of c.args.state.now)
+pub loop-done-init : goal.loop-done-init
+loop-done-init c = record {
+  first = omega arith;
+  listed = c.requires;
+  gone = λ cell only may. none_taken cell c.args.log.now c.args.from (contents_of c.args.state.now);
+}
 
-pub loop-group-preserved : goal.loop-group-preserved
-loop-group-preserved c = λ cell only may.
-    gone_next cell c.args.groups.now c.loop-group.group-index c.group-item.result
-    (contents_of c.args.state.now) c.loop-group.state c.extend.new.self c.loop-group-test.true
-    (sym c.group-item.is) may
-    (c.loop-group.invariant cell only may) (c.in_ok-extend.ensures cell only)
+pub loop-done-preserved : goal.loop-done-preserved
+loop-done-preserved c =
+    let was = c.loop-done.invariant in
+    let on = c.in_ok-next.ensures in record {
+      first = (let f = was.first in let g = on.further.0 in omega (arith, f, g));
+      listed = on.further.1;
+      gone = λ cell only may. (
+          let before = was.gone cell only may in
+          gone_on cell c.args.log.now c.args.from c.loop-done.done c.in_ok-next.next
+          (contents_of c.args.state.now) (contents_of c.loop-done.state)
+          (contents_of c.go_on.new.state) was.first (let g = on.further.0 in omega (arith, g)) before
+          (on.gone cell only (may_on cell c.args.log.now c.args.from c.loop-done.done
+          (contents_of c.args.state.now) (contents_of c.loop-done.state) was.first may before)));
+    }
 
 pub returns : goal.returns
-returns c = λ cell only may.
-    subst (λ gs. HasGone cell gs (contents_of c.args.state.now) (contents_of c.loop-group.state))
-    (take_all c.loop-group.group-index c.args.groups.now (omega arith))
-    (c.loop-group.invariant cell only may)
+returns c = λ cell only may. rest_taken cell c.args.log.now c.args.from c.loop-done.done
+    (contents_of c.args.state.now) (contents_of c.loop-done.state) (omega arith)
+    (c.loop-done.invariant.gone cell only may)

@@ -1,0 +1,331 @@
+-- The numbers of patterns stay those of the groups of a log.
+use Rattle.std.proofs.Common.{ℕ, ◌≡◌, ◌<◌, ◌≤◌, ◌+◌, ◌-◌, ◌*◌, ◌/◌, ◌^◌, List, [], ◌∷◌, ◌++◌, inl, inr}
+use Rattle.std.proofs.Common.{arith, refl, sym, ◌∙◌, ap, subst, Contains, length, get_or, take}
+use Rattle.std.proofs.Common.{length-append}
+use Rattle.std.specs.Int.RustNames.{bit_or}
+use Rattle.std.proofs.lemmas.Bool.{cases_lt}
+use Rattle.std.proofs.lemmas.Bool.Decides.{eqb_tells}
+use Rattle.std.proofs.lemmas.List.{take_all, take_more, get_or_append_left, get_or-append_right}
+use Rattle.std.proofs.lemmas.List.{get_or_default, get_or-set_other}
+use Rattle.std.proofs.lemmas.List.Elements.{Contains-append_left, Contains-get_or, Contains-push}
+use Rattle.std.proofs.lemmas.List.Elements.{Contains-push_cases}
+use Rattle.std.proofs.lemmas.Nat.{div-add-mod', div-mul-add}
+use Rattle.std.proofs.lemmas.Nat.Bits.{bit_at-pow_other, bit_at-pow_same, bit_at-zero}
+use Rattle.std.proofs.lemmas.Grind.{get_or-set_at}
+use Rattle.std.proofs.Math.ListN.{set}
+use Rattle.std.proofs.Math.Nat.{div-lt_iff_lt-mul}
+use Rattle.sv_mask.specs.Sets.{Has}
+use Rattle.sv_model.specs.declared.work.Dep.{Dep}
+use Rattle.sv_model.specs.declared.work.Group.{Group}
+use Rattle.sv_state.specs.Outlines.{AddsNothing, AreQuiet, outline}
+use Rattle.sv_state.specs.States.{entries_of}
+use Rattle.sv_state.specs.declared.state.CellState.{CellState}
+use Rattle.sv_state.proofs.Unions.{Has-or, Has-or_left, Has-or_right}
+use Rattle.sv_space.specs.Patterns.{AreMarked, AreMore, AreQuietFrom, AreQuietPatterns, HasOutlines}
+use Rattle.sv_space.specs.Patterns.{HavePatterns, IsBlockIn, IsPatternOf, IsQuietPattern, KeepMarks, most}
+use Rattle.sv_space.specs.declared.pattern.Pattern.{Pattern}
+
+-- one dependency more whose outline is listed
+pub outlines_next : (outlines deps : List Dep) (i : ℕ) (d : Dep) → i < length deps
+    → Contains outlines (outline (get_or deps i d)) → HasOutlines outlines (take i deps)
+    → HasOutlines outlines (take (i + 1) deps)
+outlines_next outlines deps i d lt here has f on =
+    elim (Contains-push_cases (take i deps) (get_or deps i d) f
+    (subst (λ (ds : List Dep). Contains ds f) (take_more deps i d lt) on)) [
+      | inl old ↦ has f old
+      | inr is ↦ subst (λ (e : Dep). Contains outlines (outline e)) is here
+    ]
+
+-- the same where it stands at the dependency's place
+pub outlines_here : (outlines deps : List Dep) (i : ℕ) (o d : Dep) → i < length outlines → i < length deps
+    → get_or outlines i o ≡ outline (get_or deps i d) → HasOutlines outlines (take i deps)
+    → HasOutlines outlines (take (i + 1) deps)
+outlines_here outlines deps i o d lt within is has = outlines_next outlines deps i d within
+    (subst (λ (e : Dep). Contains outlines e) is (Contains-get_or outlines i o lt)) has
+
+-- the outline of one dependency more comes to the list
+pub outlines_pushed : (outlines deps : List Dep) (i : ℕ) (d : Dep) → i < length deps
+    → HasOutlines outlines (take i deps) → HasOutlines (outlines ++ outline (get_or deps i d) ∷ [])
+    (take (i + 1) deps)
+outlines_pushed outlines deps i d lt has =
+    outlines_next (outlines ++ outline (get_or deps i d) ∷ []) deps i d lt
+    (Contains-push outlines (outline (get_or deps i d)))
+    (λ f on. Contains-append_left outlines (outline (get_or deps i d) ∷ []) (outline f) (has f on))
+
+pub outlines_all : (outlines deps : List Dep) (i : ℕ) → length deps ≤ i → HasOutlines outlines (take i deps)
+    → HasOutlines outlines deps
+outlines_all outlines deps i all has = subst (λ (ds : List Dep). HasOutlines outlines ds)
+    (take_all i deps all) has
+
+-- the last one of a list
+at_end : {X : Type 0} (xs : List X) (x : X) (j : ℕ) (d : X) → j ≡ length xs → get_or (xs ++ x ∷ []) j d ≡ x
+at_end xs x j d is = get_or-append_right xs (x ∷ []) (length xs) j d refl (omega (arith, is))
+    ∙ ap (λ i. get_or (x ∷ []) i d) (let z : j - length xs ≡ 0 = omega (arith, is) in z)
+
+-- the pattern of that number has them
+pub outlines_of_one : (patterns : List Pattern) (number : ℕ) (q p : Pattern) (outlines deps all : List Dep)
+    → number < length patterns → outlines ≡ (get_or patterns number q).outlines.items → deps ≡ all
+    → HasOutlines outlines deps → HasOutlines (get_or patterns number p).outlines.items all
+outlines_of_one patterns number q p outlines deps all lt is same has =
+    let here : outlines ≡ (get_or patterns number p).outlines.items = is
+    ∙ ap (λ (r : Pattern). r.outlines.items) (get_or_default patterns number q p lt) in
+    subst (λ (os : List Dep). HasOutlines os all) here
+    (subst (λ (ds : List Dep). HasOutlines outlines ds) same has)
+
+pub more_none : (patterns : List Pattern) → AreMore patterns patterns
+more_none patterns = record { long = omega arith; same = λ k p lt. refl }
+
+pub more_pushed : (patterns : List Pattern) (p : Pattern) → AreMore patterns (patterns ++ p ∷ [])
+more_pushed patterns p = record {
+  long = (let l = length-append patterns (p ∷ []) in omega (arith, l));
+  same = λ k q lt. get_or_append_left patterns (p ∷ []) q k lt;
+}
+
+pub has_pushed : (patterns : List Pattern) (new : Pattern) (deps : List Dep) (p : Pattern)
+    → HasOutlines new.outlines.items deps → HasOutlines
+    (get_or (patterns ++ new ∷ []) (length patterns) p).outlines.items deps
+has_pushed patterns new deps p has = subst (λ (q : Pattern). HasOutlines q.outlines.items deps)
+    (sym (at_end patterns new (length patterns) p refl)) has
+
+pub longer_pushed : (patterns : List Pattern) (p : Pattern) → length patterns < length (patterns ++ p ∷ [])
+longer_pushed patterns p = let l = length-append patterns (p ∷ []) in omega (arith, l)
+
+-- a number that no pattern has
+pub of_none : (patterns : List Pattern) (number : ℕ) (deps : List Dep) → most ≤ number
+    → IsPatternOf patterns number deps
+of_none patterns number deps over = record {
+  listed = λ small. absurd (omega (arith, small, over));
+  has = λ p small. absurd (omega (arith, small, over));
+}
+
+pub of_one : (patterns : List Pattern) (number : ℕ) (deps : List Dep) → number < length patterns
+    → ((p : Pattern) → HasOutlines (get_or patterns number p).outlines.items deps)
+    → IsPatternOf patterns number deps
+of_one patterns number deps lt has = record { listed = λ small. lt; has = λ p small. has p }
+
+-- the block of a place
+in_block : (j n : ℕ) → j < 64 * n → j / 64 < n
+in_block j n lt = (div-lt_iff_lt-mul (let z : 0 < 64 = omega arith in z)).1 (omega (arith, lt))
+
+-- one that was found, and one that is new
+pub of_found : (seen patterns : List Pattern) (number : ℕ) (deps : List Dep) → seen ≡ patterns
+    → number < length patterns
+    → ((p : Pattern) → number < length seen → HasOutlines (get_or seen number p).outlines.items deps)
+    → IsPatternOf patterns number deps
+of_found seen patterns number deps same lt has =
+    let within : number < length seen = (let l = ap length same in omega (arith, l, lt)) in
+    subst (λ (ps : List Pattern). IsPatternOf ps number deps) same
+    (of_one seen number deps within (λ p. has p within))
+
+pub of_new : (old new : List Pattern) (number : ℕ) (deps : List Dep) → number ≡ length old
+    → length old < length new
+    → ((p : Pattern) → HasOutlines (get_or new (length old) p).outlines.items deps)
+    → IsPatternOf new number deps
+of_new old new number deps is longer has = of_one new number deps (omega (arith, is, longer))
+    (λ p. subst (λ k. HasOutlines (get_or new k p).outlines.items deps) (sym is) (has p))
+
+pub next_block : (place n : ℕ) → place ≤ 64 * n → n ≤ place / 64 → place / 64 ≡ n
+next_block place n room over = omega arith
+
+-- one number more in the set at this place
+pub kept_set : (blocks : List ℕ) (at member old new : ℕ) → at < length blocks → old ≡ get_or blocks at old
+    → new ≡ bit_or old (2 ^ member) → KeepMarks blocks (set blocks at new)
+kept_set blocks at member old new lt here is k e n within h = elim (eqb_tells k at) [
+  | inl w ↦ (
+      let was : get_or blocks k e ≡ old = ap (λ i. get_or blocks i e) w.1
+      ∙ (get_or_default blocks at e old lt ∙ sym here) in
+      let now : get_or (set blocks at new) k e ≡ bit_or old (2 ^ member) =
+      get_or-set_at blocks at k new e w.1 lt ∙ is in
+      subst (λ (m : ℕ). Has m n) (sym now)
+      (Has-or_left old (2 ^ member) n (subst (λ (m : ℕ). Has m n) was h)))
+  | inr w ↦ subst (λ (m : ℕ). Has m n) (sym (get_or-set_other blocks at k new e w.1)) h
+]
+
+-- the number is in its set then
+pub marked_at : (blocks : List ℕ) (k member d new old : ℕ) → get_or blocks k d ≡ new
+    → new ≡ bit_or old (2 ^ member) → Has (get_or blocks k d) member
+marked_at blocks k member d new old here is = subst (λ (m : ℕ). Has m member) (sym (here ∙ is))
+    (Has-or_right old (2 ^ member) member (bit_at-pow_same member))
+
+pub marked_set : (blocks : List ℕ) (at member d old new : ℕ) → at < length blocks
+    → new ≡ bit_or old (2 ^ member) → Has (get_or (set blocks at new) at d) member
+marked_set blocks at member d old new lt is = marked_at (set blocks at new) at member d new old
+    (get_or-set_at blocks at at new d refl lt) is
+
+pub marked_pushed : (blocks : List ℕ) (at member d old new : ℕ) → at ≡ length blocks
+    → new ≡ bit_or old (2 ^ member) → Has (get_or (blocks ++ new ∷ []) at d) member
+marked_pushed blocks at member d old new end is = marked_at (blocks ++ new ∷ []) at member d new old
+    (at_end blocks new at d end) is
+
+-- more patterns
+pub patterns_more : (groups : List Group) (old new : List Pattern) (numbers blocks : List ℕ)
+    → AreMore old new → HavePatterns groups old numbers blocks → HavePatterns groups new numbers blocks
+patterns_more groups old new numbers blocks more have = record {
+  short = have.short;
+  each = λ j d g lt. (
+      let w = have.each j d g lt in
+      let n : ℕ = get_or numbers j d in record {
+        listed = λ small. (let l = w.listed small in let m = more.long in omega (arith, l, m));
+        has = λ p small. subst (λ (q : Pattern). HasOutlines q.outlines.items (get_or groups j g).deps)
+            (sym (more.same n p (w.listed small))) (w.has p small);
+      });
+  marked = have.marked;
+}
+
+-- one group more, without a number
+pub patterns_group : (groups : List Group) (h : Group) (patterns : List Pattern) (numbers blocks : List ℕ)
+    → HavePatterns groups patterns numbers blocks → HavePatterns (groups ++ h ∷ []) patterns numbers blocks
+patterns_group groups h patterns numbers blocks have = record {
+  short = (let s = have.short in let l = length-append groups (h ∷ []) in omega (arith, s, l));
+  each = λ j d g lt. subst (λ (f : Group). IsPatternOf patterns (get_or numbers j d) f.deps)
+      (sym (get_or_append_left groups (h ∷ []) g j (let s = have.short in omega (arith, s, lt))))
+      (have.each j d g lt);
+  marked = have.marked;
+}
+
+-- more patterns, and one group more
+pub patterns_grown : (groups more : List Group) (h : Group) (old new : List Pattern) (numbers blocks : List ℕ)
+    → more ≡ groups ++ h ∷ [] → AreMore old new → HavePatterns groups old numbers blocks
+    → HavePatterns more new numbers blocks
+patterns_grown groups more h old new numbers blocks is known have =
+    subst (λ (gs : List Group). HavePatterns gs new numbers blocks) (sym is)
+    (patterns_group groups h new numbers blocks (patterns_more groups old new numbers blocks known have))
+
+-- blocks with more marks
+pub marked_more : (numbers old new : List ℕ) → KeepMarks old new → length old ≤ length new
+    → AreMarked numbers old → AreMarked numbers new
+marked_more numbers old new kept long are = record {
+  room = (let r = are.room in omega (arith, r, long));
+  has = λ j d e lt. kept (j / 64) e (get_or numbers j d)
+      (in_block j (length old) (let r = are.room in omega (arith, r, lt))) (are.has j d e lt);
+}
+
+pub patterns_marked : (groups : List Group) (patterns : List Pattern) (numbers old new : List ℕ)
+    → KeepMarks old new → length old ≤ length new → HavePatterns groups patterns numbers old
+    → HavePatterns groups patterns numbers new
+patterns_marked groups patterns numbers old new kept long have =
+    record {
+      short = have.short;
+      each = have.each;
+      marked = marked_more numbers old new kept long have.marked;
+    }
+
+-- one number more, of the last group
+pub patterns_number : (groups : List Group) (h : Group) (patterns : List Pattern) (numbers blocks : List ℕ)
+    (n : ℕ) → length numbers ≡ length groups → IsPatternOf patterns n h.deps → length numbers
+    < 64 * length blocks → ((e : ℕ) → Has (get_or blocks (length numbers / 64) e) n)
+    → HavePatterns (groups ++ h ∷ []) patterns numbers blocks
+    → HavePatterns (groups ++ h ∷ []) patterns (numbers ++ n ∷ []) blocks
+patterns_number groups h patterns numbers blocks n even is room marked have = record {
+  short = (let l = length-append groups (h ∷ []) in let m = length-append numbers (n ∷ []) in
+      omega (arith, even, l, m));
+  each = λ j d g lt. elim (cases_lt j (length numbers)) [
+    | inl less ↦ subst (λ (k : ℕ). IsPatternOf patterns k (get_or (groups ++ h ∷ []) j g).deps)
+        (sym (get_or_append_left numbers (n ∷ []) d j less)) (have.each j d g less)
+    | inr over ↦ (
+        let m = length-append numbers (n ∷ []) in
+        let last : j ≡ length numbers = omega (arith, over, lt, m) in
+        subst (λ (k : ℕ). IsPatternOf patterns k (get_or (groups ++ h ∷ []) j g).deps)
+        (sym (at_end numbers n j d last))
+        (subst (λ (f : Group). IsPatternOf patterns n f.deps) (sym (at_end groups h j g (last ∙ even))) is))
+  ];
+  marked = record {
+    room = (let m = length-append numbers (n ∷ []) in omega (arith, m, room));
+    has = λ j d e lt. elim (cases_lt j (length numbers)) [
+      | inl less ↦ subst (λ (k : ℕ). Has (get_or blocks (j / 64) e) k)
+          (sym (get_or_append_left numbers (n ∷ []) d j less)) (have.marked.has j d e less)
+      | inr over ↦ (
+          let m = length-append numbers (n ∷ []) in
+          let last : j ≡ length numbers = omega (arith, over, lt, m) in
+          subst (λ (k : ℕ). Has (get_or blocks (j / 64) e) k) (sym (at_end numbers n j d last))
+          (subst (λ (i : ℕ). Has (get_or blocks (i / 64) e) n) (sym last) (marked e)))
+    ];
+  };
+}
+
+-- the same of lists that are said to be these
+pub patterns_numbered : (groups all : List Group) (h : Group) (patterns : List Pattern)
+    (numbers more blocks : List ℕ) (n : ℕ) → all ≡ groups ++ h ∷ [] → more ≡ numbers ++ n ∷ []
+    → length numbers + 1 ≡ length all → IsPatternOf patterns n h.deps → length numbers < 64 * length blocks
+    → ((e : ℕ) → Has (get_or blocks (length numbers / 64) e) n) → HavePatterns all patterns numbers blocks
+    → HavePatterns all patterns more blocks
+patterns_numbered groups all h patterns numbers more blocks n is_all is_more even is room marked have =
+    let long : length all ≡ length groups + 1 = ap length is_all ∙ length-append groups (h ∷ []) in
+    subst (λ (gs : List Group). HavePatterns gs patterns more blocks) (sym is_all)
+    (subst (λ (ns : List ℕ). HavePatterns (groups ++ h ∷ []) patterns ns blocks) (sym is_more)
+    (patterns_number groups h patterns numbers blocks n (omega (arith, even, long)) is room marked
+    (subst (λ (gs : List Group). HavePatterns gs patterns numbers blocks) is_all have)))
+
+-- a group of a pattern of which nothing is added
+pub quiet_group : (state : CellState) (groups : List Group) (patterns : List Pattern)
+    (numbers blocks : List ℕ) (j d : ℕ) (g : Group) → HavePatterns groups patterns numbers blocks → j
+    < length numbers → IsQuietPattern state patterns (get_or numbers j d)
+    → AddsNothing state (get_or groups j g)
+quiet_group state groups patterns numbers blocks j d g have lt quiet e f on_e on_f =
+    quiet.quiet e (outline f) on_e (subst (λ (p : Pattern). HasOutlines p.outlines.items
+    (get_or groups j g).deps) quiet.here ((have.each j d g lt).has quiet.pattern quiet.small) f on_f)
+
+-- the groups that are passed over
+pub quiet_groups : (state : CellState) (groups : List Group) (patterns : List Pattern)
+    (numbers blocks : List ℕ) (from end : ℕ) → HavePatterns groups patterns numbers blocks
+    → (from < end → end ≤ length numbers) → AreQuietFrom from end state patterns numbers
+    → (j : ℕ) (g : Group) → from ≤ j → j < end → AddsNothing state (get_or groups j g)
+quiet_groups state groups patterns numbers blocks from end have listed are j g le lt =
+    let within : j < length numbers = (let l = listed (omega (arith, le, lt)) in omega (arith, l, lt)) in
+    quiet_group state groups patterns numbers blocks j 0 g have within (are j 0 le lt within)
+
+-- no place is in a set of none
+pub quiet_none : (state : CellState) (patterns : List Pattern) → AreQuietPatterns state patterns 0
+quiet_none state patterns n has = absurd (let z = bit_at-zero n in omega (arith, has, z))
+
+-- one number more in the set
+pub quiet_with : (state : CellState) (patterns : List Pattern) (set n : ℕ) → IsQuietPattern state patterns n
+    → AreQuietPatterns state patterns set → AreQuietPatterns state patterns (bit_or set (2 ^ n))
+quiet_with state patterns set n quiet are m has = elim (Has-or set (2 ^ n) m has) [
+  | inl old ↦ are m old
+  | inr new ↦ elim (eqb_tells m n) [
+    | inl w ↦ subst (λ k. IsQuietPattern state patterns k) (sym w.1) quiet
+    | inr w ↦ absurd (let z = bit_at-pow_other n m w.1 in omega (arith, new, z))
+  ]
+]
+
+-- the numbers of a block whose set is quiet
+pub quiet_block : (state : CellState) (patterns : List Pattern) (numbers blocks : List ℕ) (place set : ℕ)
+    → AreMarked numbers blocks → AreQuietPatterns state patterns set → IsBlockIn place blocks set
+    → AreQuietFrom place (place + 64) state patterns numbers
+quiet_block state patterns numbers blocks place set marked are block j d le lt within =
+    let whole = div-add-mod' place 64 in
+    let begins = block.begins in
+    let b = place / 64 in
+    let at : j ≡ b * 64 + (j - place) = omega (arith, whole, begins, le) in
+    let same : j / 64 ≡ b = ap (λ i. i / 64) at ∙ div-mul-add b 64 (j - place) (omega (arith, le, lt)) in
+    are (get_or numbers j d) (block.includes 0 (get_or numbers j d)
+    (subst (λ i. Has (get_or blocks i 0) (get_or numbers j d)) same (marked.has j d 0 within)))
+
+pub quiet_one : (state : CellState) (patterns : List Pattern) (numbers : List ℕ) (place d : ℕ) → place
+    < length numbers → IsQuietPattern state patterns (get_or numbers place d)
+    → AreQuietFrom place (place + 1) state patterns numbers
+quiet_one state patterns numbers place d within quiet j e le lt lt_j =
+    let is : place ≡ j = omega (arith, le, lt) in
+    subst (λ i. IsQuietPattern state patterns (get_or numbers i e)) is
+    (subst (λ n. IsQuietPattern state patterns n) (get_or_default numbers place d e within) quiet)
+
+-- a pattern that is asked for
+pub quiet_asked : (state : CellState) (patterns : List Pattern) (n : ℕ) (p : Pattern) (outlines : List Dep)
+    → n < most → p ≡ get_or patterns n p → outlines ≡ p.outlines.items
+    → AreQuiet (entries_of state) outlines → IsQuietPattern state patterns n
+quiet_asked state patterns n p outlines small at is quiet = record {
+  pattern = p;
+  small = small;
+  here = sym at;
+  quiet = subst (λ (ds : List Dep). AreQuiet (entries_of state) ds) is quiet;
+}
+
+-- some places, and then others
+pub quiet_then : (state : CellState) (patterns : List Pattern) (numbers : List ℕ) (from mid end : ℕ)
+    → AreQuietFrom from mid state patterns numbers → AreQuietFrom mid end state patterns numbers
+    → AreQuietFrom from end state patterns numbers
+quiet_then state patterns numbers from mid end one two j d le lt within = elim (cases_lt j mid) [
+  | inl less ↦ one j d le less within
+  | inr more ↦ two j d more lt within
+]

@@ -1,0 +1,68 @@
+-- Patterns of groups, and of which pattern each group of a log is.
+use Rattle.std.specs.Prelude.{ℕ, ◌≡◌, ◌<◌, ◌≤◌, ◌*◌, ◌/◌, ◌%◌, List, length, slice_index_or, Contains}
+use Rattle.sv_mask.specs.Sets.{Has, Includes}
+use Rattle.sv_model.specs.declared.work.Dep.{Dep}
+use Rattle.sv_model.specs.declared.work.Group.{Group}
+use Rattle.sv_state.specs.Outlines.{AreQuiet, outline}
+use Rattle.sv_state.specs.States.{entries_of}
+use Rattle.sv_state.specs.declared.state.CellState.{CellState}
+use Rattle.sv_space.specs.declared.pattern.Pattern.{Pattern}
+
+-- so many patterns have numbers at most
+abbrev pub most : ℕ
+most = 63
+
+-- the outlines of these dependencies are listed
+abbrev pub HasOutlines : List Dep → List Dep → Type 0
+HasOutlines outlines deps = (d : Dep) → Contains deps d → Contains outlines (outline d)
+
+-- a number below the limit is that of the pattern of a group with these dependencies
+pub record IsPatternOf (patterns : List Pattern) (number : ℕ) (deps : List Dep) : Type 0 where
+  pub listed : number < most → number < length patterns
+  pub has : (p : Pattern) → number < most → HasOutlines (slice_index_or patterns number p).outlines.items deps
+
+-- the set of each block of 64 numbers has these
+pub record AreMarked (numbers blocks : List ℕ) : Type 0 where
+  pub room : length numbers ≤ 64 * length blocks
+  pub has : (j d e : ℕ) → j < length numbers → Has (slice_index_or blocks (j / 64) e)
+      (slice_index_or numbers j d)
+
+-- the first groups are of the patterns with these numbers
+pub record HavePatterns (groups : List Group) (patterns : List Pattern)
+    (numbers blocks : List ℕ) : Type 0 where
+  pub short : length numbers ≤ length groups
+  pub each : (j d : ℕ) (g : Group) → j < length numbers
+      → IsPatternOf patterns (slice_index_or numbers j d) (slice_index_or groups j g).deps
+  pub marked : AreMarked numbers blocks
+
+-- no set of the list loses a number
+abbrev pub KeepMarks : List ℕ → List ℕ → Type 0
+KeepMarks old new = (k e n : ℕ) → k < length old → Has (slice_index_or old k e) n
+    → Has (slice_index_or new k e) n
+
+-- the first patterns are as they were
+pub record AreMore (old new : List Pattern) : Type 0 where
+  pub long : length old ≤ length new
+  pub same : (k : ℕ) (p : Pattern) → k < length old → slice_index_or new k p ≡ slice_index_or old k p
+
+-- the number is that of a pattern of which no later group adds anything to the state
+pub record IsQuietPattern (state : CellState) (patterns : List Pattern) (number : ℕ) : Type 0 where
+  pub pattern : Pattern
+  pub small : number < most
+  pub here : slice_index_or patterns number pattern ≡ pattern
+  pub quiet : AreQuiet (entries_of state) pattern.outlines.items
+
+-- so it is with each number of a set
+abbrev pub AreQuietPatterns : CellState → List Pattern → ℕ → Type 0
+AreQuietPatterns state patterns set = (n : ℕ) → Has set n → IsQuietPattern state patterns n
+
+-- the place begins a block, whose set is part of this one
+pub record IsBlockIn (place : ℕ) (blocks : List ℕ) (set : ℕ) : Type 0 where
+  pub begins : place % 64 ≡ 0
+  pub includes : (e : ℕ) → Includes set (slice_index_or blocks (place / 64) e)
+
+-- from one place up to another, as far as there are numbers, they are those of patterns of which nothing is
+-- added to the state
+abbrev pub AreQuietFrom : ℕ → ℕ → CellState → List Pattern → List ℕ → Type 0
+AreQuietFrom from end state patterns numbers = (j d : ℕ) → from ≤ j → j < end → j < length numbers
+    → IsQuietPattern state patterns (slice_index_or numbers j d)
