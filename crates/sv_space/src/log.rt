@@ -1,5 +1,6 @@
 //! The groups of the work, which pieces go through late.
-ghost use Rattle.std.specs.Prelude.{◌≡◌, ◌∷◌, ◌++◌, ◌<◌, ◌≤◌, [], ℕ, IfOk, OnOk, length, slice_index_or};
+ghost use Rattle.std.specs.Prelude.{◌≡◌, ◌∷◌, ◌++◌, ◌<◌, ◌≤◌, [], ℕ, IfOk, OnErr, OnOk, length};
+ghost use Rattle.std.specs.Prelude.{slice_index_or};
 ghost use Rattle.sv_model.specs.declared.work.Group.{Group};
 ghost use Rattle.sv_state.specs.Outlines.{AddsNothing};
 
@@ -70,7 +71,7 @@ impl Log {
     {
         let number = number_of(alloc, &mut self.patterns, group)?;
         let copied = copy_group(alloc, group)?;
-        self.groups.push(copied)?;
+        keep(&mut self.groups, copied)?;
         // Where a number was lost for want of memory, the later ones would be of other groups.
         if self.numbers.len() + 1 == self.groups.len() {
             mark(&mut self.blocks, self.numbers.len(), number)?;
@@ -90,6 +91,18 @@ impl Log {
     {
         next_in(state, &self.patterns, &self.numbers, &self.blocks, from)
     }
+}
+
+// Puts a group at the end. A group is large, so that the room grows by a quarter and not by its double.
+fn keep(groups: &mut Vec<Group>, group: Group) -> Result<(), AllocError>
+    ensures ok { OnOk result (groups.new.items ≡ groups.old.items ++ group ∷ []) }
+    ensures err { OnErr result (groups.new.items ≡ groups.old.items) }
+{
+    if groups.len() == groups.capacity() {
+        groups.reserve_exact(groups.len() / 4 + 4)?;
+    }
+    groups.push(group)?;
+    Ok(())
 }
 
 fn copy_list<T: Copy>(alloc: Global, list: &List<T>) -> Result<List<T>, AllocError>
