@@ -4,3 +4,5 @@ pub mod TakenItems
 pub mod TakingIn
 pub mod Lacking
 pub mod Kept
+pub mod KeptFew
+pub mod FewPieces

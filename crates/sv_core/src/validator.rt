@@ -1,9 +1,11 @@
 //! The one-thread validator.
-ghost use Rattle.std.specs.Prelude.{◌≡◌, ◌∷◌, ◌++◌, [], ℕ, List, true, false, length, IfOk, IfErr, OnOk};
-ghost use Rattle.std.specs.Prelude.{OnErr};
+ghost use Rattle.std.specs.Prelude.{◌≡◌, ◌≤◌, ◌∷◌, ◌++◌, ◌+◌, ◌*◌, [], ℕ, List, true, false, length, IfOk};
+ghost use Rattle.std.specs.Prelude.{IfErr, OnErr, OnOk};
 ghost use Rattle.sv_model.specs.History.{IsHistory, IsWhole};
 ghost use Rattle.sv_model.specs.Replies.{AreReplies, IsReply};
+ghost use Rattle.sv_model.specs.Work.{work_steps};
 ghost use Rattle.sv_model.specs.declared.line.Mark.{Mark};
+ghost use Rattle.sv_space.specs.Runs.{runs_in};
 
 use crate::going::{event_count, go_on};
 use crate::parts::Parts;
@@ -59,6 +61,8 @@ impl Validator {
     ghost use Rattle.sv_model.specs.Lawful.{IsLawful};
     ghost use Rattle.sv_core.specs.Marks.{IsNextEvent, IsOwn, IsStop, mark_of};
     ghost use Rattle.sv_core.specs.State.{HasItsSpace};
+    ghost use Rattle.sv_step_laws.specs.Bounded.{HasNoScopes};
+    ghost use Rattle.std.specs.Prelude.{◌≤◌, ◌+◌, ◌*◌};
 
     /// The validator before any event. The places of the history and of the replies are reserved for all
     /// events.
@@ -140,9 +144,13 @@ impl Validator {
     }
 
     /// The number of accesses that are kept for the pieces of the space, or 2^64 - 1 where it is above that.
+    /// In a trace without render scopes these are, for each piece, at most the accesses of one step on a
+    /// cell, of which there are up to 64, and of each queue a read of each of the 17 stages.
     pub fn kept_total(&self) -> u64
         ensures stands { HasItsSpace self.now }
         ensures number { result ≡ self.now.kept }
+        ensures few { self.now.spent ≡ false → HasNoScopes self.now.trace
+            → result ≤ (64 + 17 * length self.now.trace.queues) * self.now.pieces }
     {
         self.parts.work.checks.space.kept_total()
     }
@@ -155,6 +163,8 @@ impl Validator {
           installed = 0;
           caught_up = self.now.given;
         } }
+        ensures few { self.now.spent ≡ false → result.pieces ≤ length self.now.trace.resources
+            + 2 * runs_in (work_steps self.now.trace self.now.history) }
     {
         let space = &self.parts.work.checks.space;
         Counts {

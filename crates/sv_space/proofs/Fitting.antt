@@ -1,6 +1,6 @@
 -- What a step that fits may do, and the areas of the resources of a lawful trace.
-use Rattle.std.proofs.Common.{ℕ, ◌≡◌, Bool, true, false, List, [], ◌∷◌, Contains, Option, Some, None, arith}
-use Rattle.std.proofs.Common.{refl, sym, ◌∙◌, subst}
+use Rattle.std.proofs.Common.{ℕ, ◌≡◌, ◌≤◌, Bool, true, false, List, [], ◌∷◌, Contains, Option, Some, None}
+use Rattle.std.proofs.Common.{arith, length, refl, sym, ◌∙◌, subst}
 use Rattle.std.specs.Prelude.{slice_get, ◌==◌, if◌then◌else◌}
 use Rattle.std.specs.List.{cons_option, filter_map}
 use Rattle.std.proofs.lemmas.Bool.{eqb-true}
@@ -36,8 +36,11 @@ unfolding HasArea
 has_area space area lies = lies
 
 pub keeps_areas : (old new : Space) → ((area : Area) → LiesIn old.lines.items area
-    → LiesIn new.lines.items area) → KeepsAreas old new
-keeps_areas old new kept area has = has_area new area (kept area (area_lies old area has))
+    → LiesIn new.lines.items area) → length new.lines.items ≡ length old.lines.items → KeepsAreas old new
+keeps_areas old new kept long = record {
+  areas = λ area has. has_area new area (kept area (area_lies old area has));
+  lines = omega (arith, long);
+}
 
 -- A step that fits.
 
@@ -150,7 +153,10 @@ inside_some ds area (Some r) e is =
 
 pub has_resources : (t : Trace) (space : Space) →
     ((d : Declared) (area : Area) → Contains t.resources d → IsInsideOf d area
-    → LiesIn space.lines.items area) → HasResources t space
-has_resources t space lies area is =
-    let h = inside_some t.resources area (resource_of t (area_resource area)) refl is in
-    has_area space area (lies h.0 area h.1 h.2)
+    → LiesIn space.lines.items area) → length space.lines.items ≤ length t.resources → HasResources t space
+has_resources t space lies few = record {
+  areas = λ area is.
+      let h = inside_some t.resources area (resource_of t (area_resource area)) refl is in
+      has_area space area (lies h.0 area h.1 h.2);
+  lines = few;
+}

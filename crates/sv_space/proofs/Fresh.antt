@@ -1,5 +1,6 @@
 -- Lines before any work.
-use Rattle.std.proofs.Common.{ℕ, zero, suc, ◌≡◌, ◌<◌, ◌≤◌, ◌*◌, List, [], ◌∷◌, arith, sym, subst}
+use Rattle.std.proofs.Common.{ℕ, zero, suc, ◌≡◌, ◌<◌, ◌≤◌, ◌*◌, List, [], ◌∷◌, ap, arith, length, sym}
+use Rattle.std.proofs.Common.{subst}
 use Rattle.std.proofs.Math.Nat.{mul-le-mul_right}
 use Rattle.sv_model.specs.declared.work.Cell.{Cell}
 use Rattle.sv_range.specs.declared.span.Span.{Span}
@@ -38,6 +39,9 @@ module _ (res : ℕ) (s : Shape) (span : Span) (known : Known) (upto : known.upt
       one : IsLineOf [] res s (piece ∷ [])
       one zero d lt = of_piece
       one (suc k) d lt = absurd (omega (arith, lt))
+
+pub one_piece : (p : Part Known) (parts : List (Part Known)) → parts ≡ p ∷ [] → length parts ≡ 1
+one_piece p parts is = ap length is
 
 pub fresh_within : (lines : List Line) → AreFresh lines → AreAllWithin 0 lines
 fresh_within lines fresh k d lt = (fresh k d lt).within

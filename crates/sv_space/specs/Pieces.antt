@@ -37,7 +37,8 @@ pub record IsUniform (step : Step) (res : ℕ) (shape : Shape) (span : Span) : T
       ≡ on_cell e (accesses_of step)
   pub groups : (c e : Cell) → IsOf res shape span c → IsOf res shape span e → AreAlike (groups_of step) c e
 
--- nothing was done yet to the cells of the line
+-- nothing was done yet to the cells of the line, which are one piece
 pub record IsFresh (line : Line) : Type 0 where
   pub within : AreWithin 0 line.pieces.parts.items
   pub stands : IsLineOf [] line.res line.shape line.pieces.parts.items
+  pub one : length line.pieces.parts.items ≡ 1

@@ -1,5 +1,5 @@
 //! What is kept for the cells of a piece.
-ghost use Rattle.std.specs.Prelude.{◌≡◌, ◌+◌, ◌-◌, ◌<◌, ◌≤◌, ℕ, Bool, Contains, List, [], false, length};
+ghost use Rattle.std.specs.Prelude.{◌≡◌, ◌+◌, ◌-◌, ◌*◌, ◌<◌, ◌≤◌, ℕ, Bool, Contains, List, [], false, length};
 ghost use Rattle.std.specs.Prelude.{drop, slice_index_or, take, IfOk, IfSome, IsTrue, MatchOption, OnOk};
 ghost use Rattle.std.specs.Option.{option_copied};
 ghost use Rattle.sv_model.specs.Cells.{covers, IsOnly};
@@ -10,7 +10,7 @@ ghost use Rattle.sv_model.specs.declared.work.Cell.{Cell};
 ghost use Rattle.sv_model.specs.declared.work.Group.{Group};
 ghost use Rattle.sv_state.specs.Contents.{Contents, contents_of};
 ghost use Rattle.sv_state.specs.Outlines.{AddsNothing};
-ghost use Rattle.sv_state.specs.States.{RangesHold, entries_of};
+ghost use Rattle.sv_state.specs.States.{IsBounded, RangesHold, entries_of};
 ghost use Rattle.sv_state.specs.declared.entry.Entry.{Entry};
 ghost use Rattle.sv_space.specs.Meant.{StandsFor};
 ghost use Rattle.sv_space.specs.Known.{HasGone, MayFollow};
@@ -63,9 +63,13 @@ impl Known {
         self.upto
     }
 
-    /// The number of kept accesses.
+    /// The number of kept accesses. Outside render scopes these are the accesses of one step, and of each
+    /// queue at most one read of each of the 17 stages.
     pub fn kept(&self) -> usize
-        ensures { result ≡ length self.now.state.written + length self.now.state.reads }
+        ensures number { result ≡ length self.now.state.written + length self.now.state.reads }
+        ensures few { (story : Story) (epoch : ℕ) (queues : List ℕ) (most : ℕ)
+            → StandsFor story epoch self.now.state → IsBounded story.accesses queues most
+            → result ≤ most + 17 * length queues }
     {
         self.state.kept()
     }

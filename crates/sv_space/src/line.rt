@@ -1,11 +1,12 @@
 //! The cells of a resource on a line, and what is known of them.
-ghost use Rattle.std.specs.Prelude.{◌≡◌, [], ◌∷◌, ◌+◌, ◌<◌, ◌≤◌, ◌↔◌, ℕ, All, AllPairs, IfOk, IsTrue, OnOk};
-ghost use Rattle.std.specs.Prelude.{length};
+ghost use Rattle.std.specs.Prelude.{◌≡◌, [], ◌∷◌, ◌+◌, ◌*◌, ◌<◌, ◌≤◌, ◌↔◌, ℕ, All, AllPairs, IfOk, IsTrue};
+ghost use Rattle.std.specs.Prelude.{OnOk, length};
 ghost use Rattle.sv_model.specs.Cells as cells;
 ghost use Rattle.sv_range.specs.Spans.{EndsBefore};
 ghost use Rattle.sv_range.specs.Lines.{InSome};
 ghost use Rattle.sv_rangemap.specs.Lines.{ArePartsOf, ArePlaces, BeginsAt, IsBoundary, KeepBegins};
 ghost use Rattle.sv_space.specs.Lines.{IsShaped, IsShaped-prop, IsInMip, LiesOn, area_on, cell_on, first_on};
+ghost use Rattle.sv_space.specs.Runs.{runs_of};
 
 use crate::cutting::cut;
 use crate::known::Known;
@@ -98,6 +99,7 @@ pub fn spans_of(alloc: Global, shape: Shape, area: Area) -> Result<List<Span>, A
     ensures cells { (res size : ℕ) → IsShaped shape size → LiesOn res shape size area
         → IfOk result (λ spans. (number : ℕ) → number < size
         → InSome spans number ↔ IsTrue (cells.covers area (cell_on res shape number))) }
+    ensures few { IfOk result (λ spans. length spans ≤ runs_of area) }
 {
     match (area, shape) {
         (Area::Bytes { span, .. }, _) => Ok(List::from_vec(vec![in alloc; span]?)),
@@ -113,6 +115,7 @@ impl Line {
     ghost use Rattle.sv_model.specs.declared.work.Step.{Step};
     ghost use Rattle.sv_rangemap.specs.Lines.{HaveSameSpans};
     ghost use Rattle.sv_rangemap.specs.declared.part.Part.{Part};
+    ghost use Rattle.sv_space.specs.Counts.{pieces_on};
     ghost use Rattle.sv_space.specs.Cut.{AreApart, ArePartsLater, IsCaughtFor, IsCutFor};
     ghost use Rattle.sv_space.specs.Known.{groups_in};
     ghost use Rattle.sv_space.specs.Pieces.{AreWithin, IsFresh, IsLineOf, IsPieceOf, IsSameLine};
@@ -204,6 +207,7 @@ impl Line {
         ensures others { OnOk result ((at : Area) (n : ℕ) → AreApart area at
             → IsCaughtFor at n self.old.res self.old.shape self.old.pieces.parts.items
             → IsCaughtFor at n self.old.res self.old.shape self.new.pieces.parts.items) }
+        ensures few { OnOk result (pieces_on self.new ≤ pieces_on self.old + 2 * runs_of area) }
         ensures none { IfOk result (λ given. IsCaughtFor area
             (length log.now) self.old.res self.old.shape self.old.pieces.parts.items → given ≡ 0) }
     {

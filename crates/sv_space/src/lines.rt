@@ -1,6 +1,6 @@
 //! All lines: the line of an area, and what is done to its pieces.
 ghost use Rattle.std.specs.Prelude.{◌≡◌, ◌<◌, ◌≤◌, ℕ, Contains, IfOk, List, OnOk, Some, length};
-ghost use Rattle.std.specs.Prelude.{slice_index_or};
+ghost use Rattle.std.specs.Prelude.{slice_index_or, sum_by};
 ghost use Rattle.sv_model.specs.Cells.{area_resource};
 ghost use Rattle.sv_model.specs.Reports.{AreNumbered};
 ghost use Rattle.sv_model.specs.declared.work.Access.{Access};
@@ -11,7 +11,9 @@ ghost use Rattle.sv_space.specs.AllLines.{AreAllCaught, AreAllCut, AreAllLater, 
 ghost use Rattle.sv_space.specs.AllLines.{AreAllWithin, AreLinesOf, AreSameLines, IsRangeOf, LieIn, LiesAt};
 ghost use Rattle.sv_space.specs.AllLines.{LiesIn};
 ghost use Rattle.sv_space.specs.Cut.{AreApart};
+ghost use Rattle.sv_space.specs.Growth.{GrowBy};
 ghost use Rattle.sv_space.specs.Known.{groups_in};
+ghost use Rattle.sv_space.specs.Runs.{access_runs, group_runs, range_runs, runs_of};
 ghost use Rattle.sv_space.specs.Sorted.{AreSorted, IsPlaceOf};
 ghost use Rattle.sv_space.specs.declared.line.Line.{Line};
 
@@ -77,6 +79,7 @@ fn prepare_area(
     ensures caught { OnOk result (AreAllCaught area (length log.now) lines.new.items) }
     ensures others { OnOk result ((at : Area) (n : ℕ) → AreApart area at → AreAllCaught at n lines.old.items
         → AreAllCaught at n lines.new.items) }
+    ensures few { OnOk result (GrowBy (runs_of area) lines.old.items lines.new.items) }
     ensures none { IfOk result (λ given. AreAllCaught area (length log.now) lines.old.items → given ≡ 0) }
 {
     let at = place_of(lines, area);
@@ -104,6 +107,7 @@ pub fn prepare(
     ensures others { OnOk result ((at : Area) (n : ℕ)
         → ((x : Access) → Contains accesses.now x → AreApart x.area at)
         → AreAllCaught at n lines.old.items → AreAllCaught at n lines.new.items) }
+    ensures few { OnOk result (GrowBy (sum_by access_runs accesses.now) lines.old.items lines.new.items) }
     ensures none { IfOk result (λ given. ((x : Access) → Contains accesses.now x
         → AreAllCaught x.area (length log.now) lines.old.items) → given ≡ 0) }
 {
@@ -122,6 +126,7 @@ fn cut_area(alloc: Global, lines: &mut Vec<Line>, area: Area) -> Result<(), Allo
     ensures same { AreSameLines lines.old.items lines.new.items }
     ensures parts { AreAllPartsOf lines.new.items lines.old.items }
     ensures cut { OnOk result (AreAllCut area lines.new.items) }
+    ensures few { OnOk result (GrowBy (runs_of area) lines.old.items lines.new.items) }
 {
     let at = place_of(lines, area);
     let line = &mut lines[at];
@@ -134,6 +139,7 @@ fn cut_range(alloc: Global, lines: &mut Vec<Line>, range: Option<Area>) -> Resul
     ensures same { AreSameLines lines.old.items lines.new.items }
     ensures parts { AreAllPartsOf lines.new.items lines.old.items }
     ensures cut { OnOk result ((area : Area) → range ≡ Some area → AreAllCut area lines.new.items) }
+    ensures few { OnOk result (GrowBy (range_runs range) lines.old.items lines.new.items) }
 {
     match range {
         None => Ok(()),
@@ -150,6 +156,7 @@ fn cut_group(alloc: Global, lines: &mut Vec<Line>, group: &Group) -> Result<(), 
     ensures parts { AreAllPartsOf lines.new.items lines.old.items }
     ensures cut { OnOk result ((d : Dep) (area : Area) → Contains group.now.deps d → d.range ≡ Some area
         → AreAllCut area lines.new.items) }
+    ensures few { OnOk result (GrowBy (group_runs group.now) lines.old.items lines.new.items) }
 {
     let deps = group.deps.as_slice();
     for dep in deps {
@@ -165,6 +172,7 @@ pub fn cut_groups(alloc: Global, lines: &mut Vec<Line>, groups: &[Group]) -> Res
     ensures same { AreSameLines lines.old.items lines.new.items }
     ensures parts { AreAllPartsOf lines.new.items lines.old.items }
     ensures cut { OnOk result ((area : Area) → IsRangeOf groups.now area → AreAllCut area lines.new.items) }
+    ensures few { OnOk result (GrowBy (sum_by group_runs groups.now) lines.old.items lines.new.items) }
 {
     for group in groups {
         cut_group(alloc, lines, group)?;

@@ -1,6 +1,6 @@
 //! The lines of the resources of a trace.
-ghost use Rattle.std.specs.Prelude.{◌≡◌, ◌≢◌, ◌<◌, ◌⊎◌, All, Contains, IfOk, OnOk, Some, false, length};
-ghost use Rattle.std.specs.Prelude.{slice_index_or, true};
+ghost use Rattle.std.specs.Prelude.{◌≡◌, ◌≢◌, ◌+◌, ◌<◌, ◌≤◌, ◌⊎◌, All, Contains, IfOk, OnOk, Some, false};
+ghost use Rattle.std.specs.Prelude.{length, slice_index_or, true};
 ghost use Rattle.sv_model.specs.Lawful.{AreOnce, IsLawfulResource, declared_number};
 ghost use Rattle.sv_model.specs.declared.line.Line.{Line as Declared};
 ghost use Rattle.sv_space.specs.AllLines.{AreFresh};
@@ -39,6 +39,7 @@ fn insert(lines: &mut Vec<Line>, line: Line) -> Result<(), AllocError>
         → Contains lines.new.items line) }
     ensures sorted { OnOk result (AreSorted lines.new.items) }
     ensures fresh { OnOk result (AreFresh lines.old.items → AreFresh lines.new.items) }
+    ensures few { OnOk result (length lines.new.items ≤ length lines.old.items + 1) }
 {
     let at = place_in(lines, line.res);
     if is_there(lines, at, line.res) {
@@ -58,6 +59,7 @@ fn declare(alloc: Global, lines: &mut Vec<Line>, declared: &Declared) -> Result<
         → declared_number declared.now ≢ Some l.res) → HasLineFor lines.new.items declared.now) }
     ensures sorted { OnOk result (AreSorted lines.new.items) }
     ensures fresh { OnOk result (AreFresh lines.old.items → AreFresh lines.new.items) }
+    ensures few { OnOk result (length lines.new.items ≤ length lines.old.items + 1) }
 {
     match declared {
         Declared::Buffer { res, size, .. } => {
@@ -88,6 +90,7 @@ pub fn open_all(alloc: Global, resources: &[Declared]) -> Result<Vec<Line>, Allo
     ensures fresh { IfOk result (λ lines. AreFresh lines.items) }
     ensures has { IfOk result (λ lines. AreOnce resources.now → (d : Declared) → Contains resources.now d
         → HasLineFor lines.items d) }
+    ensures few { IfOk result (λ lines. length lines.items ≤ length resources.now) }
 {
     let mut lines = Vec::new(alloc);
     for declared in resources {

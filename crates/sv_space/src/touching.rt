@@ -7,6 +7,7 @@ ghost use Rattle.sv_model.specs.declared.work.Area.{Area};
 ghost use Rattle.sv_model.specs.declared.work.Step.{Step};
 ghost use Rattle.sv_space.specs.AllLines.{AreAllCaught, AreAllCut, AreAllWithin, AreLinesOf, AreSameLines};
 ghost use Rattle.sv_space.specs.AllLines.{IsRangeOf, LieIn};
+ghost use Rattle.sv_space.specs.Growth.{pieces_over};
 ghost use Rattle.sv_space.specs.Known.{groups_in};
 ghost use Rattle.sv_space.specs.Marked.{IsLineMarked, IsStepOf};
 ghost use Rattle.sv_space.specs.Own.{HaveOwnGroups};
@@ -97,6 +98,7 @@ pub fn record_all(
         → AreLinesOf work lines.old.items → AreLinesOf (work ++ step ∷ []) lines.new.items) }
     ensures upto { OnOk result ((at : Area) (n : ℕ) → AreAllCaught at n lines.old.items
         → AreAllCaught at n lines.new.items) }
+    ensures few { OnOk result (pieces_over lines.new.items ≡ pieces_over lines.old.items) }
 {
     for number in 0..accesses.len() {
         record_one(alloc, lines, accesses, groups, number)?;

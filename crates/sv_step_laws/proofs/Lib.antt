@@ -1,3 +1,6 @@
 pub mod Areas
 pub mod Numbered
 pub mod Lowered
+pub mod FewListed
+pub mod OnQueues
+pub mod BoundedWorks

@@ -464,8 +464,8 @@ lowered_is t r (c ∷ before) are = All-append (IsStepOf t) (lowered t r before)
     (numbered_all t _ _ (command_is t (here_after r c before (length (lowered t r before))) r.family
     (scope_after before) c (scope_is t r.family before are.1) are.0))
 
-find_is : {X : Type 0} (P : X → Type 0) (p : X → Bool) (xs : List X) (x : X) → All P xs → find p xs ≡ Some x
-    → P x
+pub find_is : {X : Type 0} (P : X → Type 0) (p : X → Bool) (xs : List X) (x : X) → All P xs → find p xs
+    ≡ Some x → P x
 find_is P p [] x all e = cc
 find_is P p (y ∷ xs) x all e = by_test (find_is P p xs x (All-tail P y xs all)) (p y) e
   where

@@ -1,10 +1,12 @@
-//! The steps of a lawful trace lie inside its resources. Each function does nothing: its contract is the law.
+//! The steps of a lawful trace lie inside its resources, and without render scopes they are few accesses
+//! each. Each function does nothing: its contract is the law.
 //!
 //! - knows the steps of a lawful trace, and no code
-//! - definitions: `Steps`; `Laws` are laws
+//! - definitions: `Steps`; `Laws` and `Bounded` are laws
 //! - used by `sv_replies`
 #![tactic(auto)]
 
+ghost use Rattle.sv_step_laws.specs.Bounded.{LawfulWorksAreBounded};
 ghost use Rattle.sv_step_laws.specs.Laws.{LawfulStepsAreInside, NumberedStepsAreNext};
 
 /// The steps of a recording of a lawful trace lie inside its resources: accesses, ranges, transitions,
@@ -16,4 +18,10 @@ pub fn lawful_steps_are_inside()
 /// A numbered step has its number, and its accesses and transitions their positions.
 pub fn numbered_steps_are_next()
     ensures { NumberedStepsAreNext }
+{}
+
+/// In a lawful trace without render scopes no access of a work is in a subpass, each is on a declared queue,
+/// and no step has more than 64 on one cell.
+pub fn lawful_works_are_bounded()
+    ensures { LawfulWorksAreBounded }
 {}

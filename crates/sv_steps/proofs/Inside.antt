@@ -82,13 +82,13 @@ module _ (t : Trace) (lawful : IsLawful t) where
 
   range_fits : (s : Space) → space.HasResources t s → (o : Option Area) → IsRangeOf t o → space.RangeFits s o
   range_fits s has None is = tt
-  range_fits s has (Some area) is = has area is
+  range_fits s has (Some area) is = has.areas area is
 
   space_group : (s : Space) → space.HasResources t s → (g : Group) → IsGroupOf t g → space.GroupFits s g
   space_group s has g is = record {
     ranges = All-weaker (IsDepOf t) (space.DepFits s) (λ d h. range_fits s has d.range h) g.deps is.ranges;
     transitions = All-weaker (IsAccessOf t) (space.AccessFits s)
-        (λ a h. has a.area h.area) g.transitions is.transitions;
+        (λ a h. has.areas a.area h.area) g.transitions is.transitions;
     held = is.held;
   }
 
@@ -121,7 +121,8 @@ module _ (t : Trace) (lawful : IsLawful t) where
     space = record {
       number = n;
       next = next;
-      areas = All-weaker (IsAccessOf t) (space.AccessFits c.space) (λ a h. has.space a.area h.area) list is;
+      areas = All-weaker (IsAccessOf t) (space.AccessFits c.space)
+          (λ a h. has.space.areas a.area h.area) list is;
     };
     layouts = All-weaker (IsAccessOf t) (layout_taking.AccessFits c.layouts.map)
         (λ a h. layout_access c.layouts has.layouts a.area a.layout h.area h.layout) list is;

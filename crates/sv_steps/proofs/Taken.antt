@@ -25,7 +25,10 @@ pub areas_kept : (t : Trace) (old new : Checks) → space.KeepsAreas old.space n
     → layouts.KeepsImages old.layouts new.layouts → owners.KeepsResources old.owners new.owners
     → HaveAreas t old → HaveAreas t new
 areas_kept t old new s l o has = record {
-  space = λ a is. s a (has.space a is);
+  space = record {
+    areas = λ a is. s.areas a (has.space.areas a is);
+    lines = let kept = s.lines in let few = has.space.lines in omega (arith, kept, few);
+  };
   layouts = λ res mips layers box e m n is. l (Image res box) (has.layouts res mips layers box e m n is);
   owners = record {
     spans = λ res size span e some within. o (Bytes res span) (has.owners.spans res size span e some within);

@@ -1,4 +1,4 @@
-use Rattle.std.proofs.Common.{ℕ, ◌<◌, ◌↔◌, ◌∙◌, IsTrue, List, arith, sym, subst}
+use Rattle.std.proofs.Common.{ℕ, ◌<◌, ◌↔◌, ◌∙◌, IsTrue, List, ap, arith, length, sym, subst}
 use Rattle.std.specs.List.{All}
 use Rattle.std.proofs.lemmas.List.{get_or_default}
 use Rattle.sv_model.specs.Cells as cells
@@ -33,6 +33,7 @@ loop-span-preserved c =
           c.split_span.ensures.kept list i _ c.loop-span-test.true
           (get_or_default list i _ _ c.loop-span-test.true)
           c.in_ok-split_span.ensures.begins c.in_ok-split_span.ensures.ends was.cut;
+      few = let before = was.few in let more = c.split_span.ensures.few in omega (arith, before, more);
     }
 
 pub returns-clause-cut : goal.returns-clause-cut
@@ -54,3 +55,10 @@ returns-clause-cut c =
     cut_for c.args.area first.res first.shape pieces.size pieces.parts.items pieces.cover list in_mip
     (λ number lt. has number (let e = was.same.size in omega (arith, e, lt)))
     (λ j e lt. was.cut j e (omega arith))
+
+pub returns-clause-few : goal.returns-clause-few
+returns-clause-few c =
+    let long = ap (λ (xs : List Span). length xs) c.as_slice-list.ensures in
+    let spans = c.in_ok-spans.ensures.few in
+    let few = c.loop-span.invariant.few in
+    omega (arith, long, spans, few)

@@ -3,7 +3,9 @@ use Rattle.std.proofs.lemmas.List.{get_or_default}
 use Rattle.std.proofs.lemmas.Result.{on_ok_weaker}
 use Rattle.sv_rangemap.specs.Lines.{ArePartsOf}
 use Rattle.sv_space.specs.AllLines.{LiesAt}
+use Rattle.sv_space.specs.Runs.{runs_of}
 use Rattle.sv_space.specs.declared.line.Line.{Line}
+use Rattle.sv_space.proofs.Fewer.{one_grows}
 use Rattle.sv_space.proofs.OneLine.{one_cut, one_line, parts_same, same_lines}
 use Rattle.sv_space.proofs.lines.cut_area.Goals as goal
 
@@ -25,4 +27,6 @@ returns c =
           (λ l. parts_same l.pieces.parts.items) c.cut.ensures.parts k d;
       cut = on_ok_weaker c.cut.result (one_cut old at line new lt is c.requires.sorted c.args.area lies
           c.cut.ensures.line) c.cut.ensures.cut;
+      few = on_ok_weaker c.cut.result (one_grows old at line new lt is (runs_of c.args.area))
+          c.cut.ensures.few;
     }

@@ -1,8 +1,12 @@
-use Rattle.std.proofs.Common.{◌≡◌, ◌∙◌, List, Contains, Some, arith, get_or, subst, sym}
+use Rattle.std.proofs.Common.{◌≡◌, ◌∙◌, List, Contains, Some, arith, get_or, subst, sym, take}
+use Rattle.std.specs.Prelude.{sum_by}
 use Rattle.std.proofs.lemmas.List.{get_or_default, take_all}
 use Rattle.sv_model.specs.declared.work.Area.{Area}
 use Rattle.sv_model.specs.declared.work.Dep.{Dep}
 use Rattle.sv_space.specs.AllLines.{AreAllCut}
+use Rattle.sv_space.specs.Growth.{GrowBy}
+use Rattle.sv_space.specs.Runs.{dep_runs}
+use Rattle.sv_space.proofs.Fewer.{grown_all, grown_more, grown_none}
 use Rattle.sv_space.proofs.Taken.{each_more, none_yet}
 use Rattle.sv_space.proofs.OneLine.{all_cut_later, all_later_of_parts, all_parts_same, all_parts_then}
 use Rattle.sv_space.proofs.OneLine.{lies_same, lines_same, same_then, sorted_same}
@@ -14,6 +18,7 @@ loop-dep-init c = record {
   parts = all_parts_same c.args.lines.now.items;
   cut = none_yet c.as_slice-deps.result.now (λ d. (area : Area) → d.range ≡ Some area
       → AreAllCut area c.args.lines.now.items);
+  few = grown_none (sum_by dep_runs (take 0 c.as_slice-deps.result.now)) c.args.lines.now.items;
 }
 
 pub cut_range-requires-clause-sorted : goal.cut_range-requires-clause-sorted
@@ -48,6 +53,7 @@ loop-dep-preserved c =
           (λ d. (area : Area) → d.range ≡ Some area → AreAllCut area new)
           (λ d cut area is. all_cut_later old new one.same 0 (all_later_of_parts 0 new old one.parts) area
           (cut area is)) one.cut was.cut;
+      few = grown_more dep_runs xs i first new _ lt (get_or_default xs i _ _ lt) old was.few one.few;
     }
 
 pub returns-in_err-cut_range-clause-same : goal.returns-in_err-cut_range-clause-same
@@ -64,3 +70,9 @@ returns-clause-cut c = λ d area on is.
     c.loop-dep.invariant.cut d (subst (λ (ds : List Dep). Contains ds d)
     (sym (take_all c.loop-dep.dep-index c.as_slice-deps.result.now (omega arith)
     ∙ c.as_slice-deps.ensures)) on) area is
+
+pub returns-clause-few : goal.returns-clause-few
+returns-clause-few c = subst (λ (ds : List Dep). GrowBy (sum_by dep_runs ds) c.args.lines.now.items
+    c.loop-dep.lines.items) c.as_slice-deps.ensures
+    (grown_all dep_runs c.as_slice-deps.result.now c.loop-dep.dep-index c.args.lines.now.items
+    c.loop-dep.lines.items (omega arith) c.loop-dep.invariant.few)

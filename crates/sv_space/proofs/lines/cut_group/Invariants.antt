@@ -1,7 +1,10 @@
 use Rattle.std.proofs.Common.{◌≡◌, Contains, Some, take}
+use Rattle.std.specs.Prelude.{sum_by}
 use Rattle.sv_model.specs.declared.work.Area.{Area}
 use Rattle.sv_model.specs.declared.work.Dep.{Dep}
 use Rattle.sv_space.specs.AllLines.{AreAllCut, AreAllPartsOf, AreSameLines}
+use Rattle.sv_space.specs.Growth.{GrowBy}
+use Rattle.sv_space.specs.Runs.{dep_runs}
 use Rattle.sv_space.proofs.lines.cut_group.Given as goal
 
 abbrev pub invariant-loop-dep : goal.invariant-loop-dep
@@ -10,4 +13,5 @@ invariant-loop-dep l = record {
   parts : AreAllPartsOf l.lines.items l.initial.lines.items;
   cut : (d : Dep) → Contains (take l.dep-index l.deps) d → (area : Area) → d.range ≡ Some area
       → AreAllCut area l.lines.items;
+  few : GrowBy (sum_by dep_runs (take l.dep-index l.deps)) l.initial.lines.items l.lines.items;
 }

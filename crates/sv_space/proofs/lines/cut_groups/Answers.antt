@@ -1,9 +1,12 @@
-use Rattle.std.proofs.Common.{◌≡◌, List, Contains, Some, arith, subst, sym}
+use Rattle.std.proofs.Common.{◌≡◌, List, Contains, Some, arith, subst, sym, take}
+use Rattle.std.specs.Prelude.{sum_by}
 use Rattle.std.proofs.lemmas.List.{take_all}
 use Rattle.sv_model.specs.declared.work.Area.{Area}
 use Rattle.sv_model.specs.declared.work.Dep.{Dep}
 use Rattle.sv_model.specs.declared.work.Group.{Group}
 use Rattle.sv_space.specs.AllLines.{AreAllCut}
+use Rattle.sv_space.specs.Runs.{group_runs}
+use Rattle.sv_space.proofs.Fewer.{grown_all, grown_more, grown_none}
 use Rattle.sv_space.proofs.Taken.{each_more, none_yet}
 use Rattle.sv_space.proofs.OneLine.{all_cut_later, all_later_of_parts, all_parts_same, all_parts_then}
 use Rattle.sv_space.proofs.OneLine.{lies_same, lines_same, same_then, sorted_same}
@@ -15,6 +18,7 @@ loop-group-init c = record {
   parts = all_parts_same c.args.lines.now.items;
   cut = none_yet c.args.groups.now (λ g. (d : Dep) (area : Area) → Contains g.deps d → d.range ≡ Some area
       → AreAllCut area c.args.lines.now.items);
+  few = grown_none (sum_by group_runs (take 0 c.args.groups.now)) c.args.lines.now.items;
 }
 
 pub cut_group-requires-clause-sorted : goal.cut_group-requires-clause-sorted
@@ -47,6 +51,8 @@ loop-group-preserved c =
           (λ g. (d : Dep) (area : Area) → Contains g.deps d → d.range ≡ Some area → AreAllCut area new)
           (λ g cut d area on is. all_cut_later old new one.same 0
           (all_later_of_parts 0 new old one.parts) area (cut d area on is)) one.cut was.cut;
+      few = grown_more group_runs c.args.groups.now c.loop-group.group-index first new c.group-item.result
+          c.loop-group-test.true (sym c.group-item.is) old was.few one.few;
     }
 
 pub returns-in_err-cut_group-clause-same : goal.returns-in_err-cut_group-clause-same
@@ -63,3 +69,7 @@ returns-clause-cut c = λ area range.
     c.loop-group.invariant.cut range.group (subst (λ (gs : List Group). Contains gs range.group)
     (sym (take_all c.loop-group.group-index c.args.groups.now (omega arith))) range.listed) range.dep area
     range.in_group range.is
+
+pub returns-clause-few : goal.returns-clause-few
+returns-clause-few c = grown_all group_runs c.args.groups.now c.loop-group.group-index
+    c.args.lines.now.items c.loop-group.lines.items (omega arith) c.loop-group.invariant.few

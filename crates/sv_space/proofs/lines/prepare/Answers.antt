@@ -1,8 +1,11 @@
-use Rattle.std.proofs.Common.{List, Contains, refl, arith, length, subst}
+use Rattle.std.proofs.Common.{List, Contains, refl, arith, length, subst, take}
+use Rattle.std.specs.Prelude.{sum_by}
 use Rattle.std.proofs.lemmas.List.{get_or_default, take_all}
 use Rattle.sv_model.specs.declared.work.Access.{Access}
 use Rattle.sv_space.specs.AllLines.{AreAllCaught, AreAllCut}
+use Rattle.sv_space.specs.Runs.{access_runs}
 use Rattle.sv_space.proofs.Counted.{none_sum}
+use Rattle.sv_space.proofs.Fewer.{grown_all, grown_more, grown_none}
 use Rattle.sv_space.proofs.Taken.{each_more, none_yet}
 use Rattle.sv_space.proofs.OneLine.{all_caught_later, all_cut_later, lies_same, lines_same, same_then}
 use Rattle.sv_space.proofs.OneLine.{sorted_same}
@@ -16,6 +19,7 @@ loop-access-init c = record {
   others = λ at n apart caught. caught;
   still = λ at caught. caught;
   none = λ all. refl;
+  few = grown_none (sum_by access_runs (take 0 c.args.accesses.now)) c.args.lines.now.items;
   cut = none_yet c.args.accesses.now (λ x. AreAllCut x.area c.args.lines.now.items);
   caught = none_yet c.args.accesses.now (λ x. AreAllCaught x.area
       (length c.args.log.now) c.args.lines.now.items);
@@ -56,6 +60,7 @@ loop-access-preserved c =
       none = λ all. none_sum c.loop-access.given c.in_ok-more.more c.saturating_add-given.result
           c.saturating_add-given.ensures (was.none all)
           (one.none (was.still _ (all _ (i, lt, get_or_default xs i _ _ lt))));
+      few = grown_more access_runs xs i first new _ lt (get_or_default xs i _ _ lt) old was.few one.few;
       cut = each_more xs i _ lt (get_or_default xs i _ _ lt) (λ x. AreAllCut x.area old)
           (λ x. AreAllCut x.area new) (λ x was_cut. all_cut_later old new one.same n one.later x.area was_cut)
           one.cut was.cut;
@@ -73,3 +78,7 @@ pub returns-clause-caught : goal.returns-clause-caught
 returns-clause-caught c = subst (λ (xs : List Access). (x : Access) → Contains xs x
     → AreAllCaught x.area (length c.args.log.now) c.loop-access.lines.items)
     (take_all c.loop-access.access-index c.args.accesses.now (omega arith)) c.loop-access.invariant.caught
+
+pub returns-clause-few : goal.returns-clause-few
+returns-clause-few c = grown_all access_runs c.args.accesses.now c.loop-access.access-index
+    c.args.lines.now.items c.loop-access.lines.items (omega arith) c.loop-access.invariant.few

@@ -1,11 +1,14 @@
 use Rattle.std.proofs.Common.{ℕ, ◌≡◌, List, Contains, length, take}
+use Rattle.std.specs.Prelude.{sum_by}
 use Rattle.sv_model.specs.Reports.{AreNumbered}
 use Rattle.sv_model.specs.declared.work.Access.{Access}
 use Rattle.sv_model.specs.declared.work.Area.{Area}
 use Rattle.sv_model.specs.declared.work.Step.{Step}
 use Rattle.sv_space.specs.AllLines.{AreAllCaught, AreAllCut, AreAllWithin, AreLinesOf, AreSameLines}
 use Rattle.sv_space.specs.Cut.{AreApart}
+use Rattle.sv_space.specs.Growth.{GrowBy}
 use Rattle.sv_space.specs.Known.{groups_in}
+use Rattle.sv_space.specs.Runs.{access_runs}
 use Rattle.sv_space.proofs.lines.prepare.Given as goal
 
 abbrev pub invariant-loop-access : goal.invariant-loop-access
@@ -20,6 +23,7 @@ invariant-loop-access l = record {
       → AreAllCaught at (length l.log) l.lines.items;
   none : ((x : Access) → Contains l.accesses x → AreAllCaught x.area (length l.log) l.initial.lines.items)
       → l.given ≡ 0;
+  few : GrowBy (sum_by access_runs (take l.access-index l.accesses)) l.initial.lines.items l.lines.items;
   cut : (x : Access) → Contains (take l.access-index l.accesses) x → AreAllCut x.area l.lines.items;
   caught : (x : Access) → Contains (take l.access-index l.accesses) x
       → AreAllCaught x.area (length l.log) l.lines.items;

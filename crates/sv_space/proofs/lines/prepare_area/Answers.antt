@@ -3,8 +3,10 @@ use Rattle.std.proofs.lemmas.List.{get_or_default}
 use Rattle.std.proofs.lemmas.Result.{IfOk-weaker, on_ok_weaker}
 use Rattle.sv_space.specs.AllLines.{LiesAt}
 use Rattle.sv_space.specs.Cut.{ArePartsLater, IsCaughtFor}
+use Rattle.sv_space.specs.Runs.{runs_of}
 use Rattle.sv_space.specs.declared.line.Line.{Line}
 use Rattle.sv_space.proofs.Cuts.{later_same}
+use Rattle.sv_space.proofs.Fewer.{one_grows}
 use Rattle.sv_space.proofs.OneLine.{line_within, one_caught, one_cut, one_line, one_others, one_stands}
 use Rattle.sv_space.proofs.OneLine.{one_within, same_lines}
 use Rattle.sv_space.proofs.lines.prepare_area.Goals as goal
@@ -57,6 +59,8 @@ returns c =
           lies n c.prepare.ensures.line) c.prepare.ensures.caught;
       others = on_ok_weaker c.prepare.result (λ others area m apart was. one_others old at line new lt is
           c.prepare.ensures.line area m (others area m apart) was) c.prepare.ensures.others;
+      few = on_ok_weaker c.prepare.result (one_grows old at line new lt is (runs_of c.args.area))
+          c.prepare.ensures.few;
       none = IfOk-weaker c.prepare.result _ _ (λ given none was. none
           (subst (λ (l : Line). IsCaughtFor c.args.area n l.res l.shape l.pieces.parts.items) (sym is)
           (was at line lt))) c.prepare.ensures.none;

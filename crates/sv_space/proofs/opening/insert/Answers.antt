@@ -1,4 +1,5 @@
-use Rattle.std.proofs.Common.{◌<◌, ◌≤◌, ◌≡◌, ◌⊎◌, List, Contains, get_or, length, subst, sym}
+use Rattle.std.proofs.Common.{◌+◌, ◌<◌, ◌≤◌, ◌≡◌, ◌⊎◌, List, Contains, arith, get_or, length, subst, sym}
+use Rattle.std.proofs.lemmas.List.Edits.{length-insert}
 use Rattle.sv_space.specs.AllLines.{AreFresh}
 use Rattle.sv_space.specs.Pieces.{IsFresh}
 use Rattle.sv_space.specs.Sorted.{AreSorted, IsPlaceOf}
@@ -63,3 +64,12 @@ pub returns-then-is_there-clause-has : goal.returns-then-is_there-clause-has
 returns-then-is_there-clause-has c = λ none.
     let w = c.is_there.ensures.there c.if-is_there.true in
     absurd (none w.0 (subst (λ (ls : List Line). Contains ls w.0) c.deref-2.ensures.value w.1) w.2)
+
+pub returns-clause-few : goal.returns-clause-few
+returns-clause-few c =
+    let old = c.args.lines.now.items in
+    let at = c.place_in-at.result in
+    let le : at ≤ length old = subst (λ (ls : List Line). at ≤ length ls) c.deref.ensures.value
+    c.place_in-at.ensures.listed in
+    subst (λ (ls : List Line). length ls ≤ length old + 1) (sym c.in_ok-insert.ensures.items)
+    (let long = length-insert old at c.args.line le in omega (arith, long))

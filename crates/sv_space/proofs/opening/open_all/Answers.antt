@@ -43,6 +43,7 @@ loop-declared-preserved c =
             once_apart declared_number rs once i d w.0 lt at w.1 l.res l.res
             (line_number w.0 l w.2) is_number refl))
       ];
+      few = let before = was.few in let more = one.few in omega (arith, before, more);
     }
 
 pub returns-clause-has : goal.returns-clause-has

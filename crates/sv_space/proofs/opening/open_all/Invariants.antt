@@ -1,4 +1,4 @@
-use Rattle.std.proofs.Common.{Contains, take}
+use Rattle.std.proofs.Common.{◌≤◌, Contains, length, take}
 use Rattle.sv_model.specs.Lawful.{AreOnce}
 use Rattle.sv_model.specs.declared.line.Line.{Line as Declared}
 use Rattle.sv_space.specs.AllLines.{AreFresh}
@@ -15,4 +15,5 @@ invariant-loop-declared l = record {
       × Contains (take l.declared-index l.resources) e × IsLineFor e m;
   has : AreOnce l.resources → (e : Declared) → Contains (take l.declared-index l.resources) e
       → HasLineFor l.lines.items e;
+  few : length l.lines.items ≤ l.declared-index;
 }

@@ -1,4 +1,6 @@
 use Rattle.std.proofs.Common.{arith, get_or}
+use Rattle.sv_space.specs.Counts.{pieces_on}
+use Rattle.sv_space.proofs.Fewer.{same_sum}
 use Rattle.sv_space.proofs.LineStepped.{line_stepped, line_stepped_none, lines_cut, lines_stepped}
 use Rattle.sv_space.proofs.LineStepped.{marked_caught}
 use Rattle.sv_space.proofs.OneLine.{lies_same, lines_same, same_then, sorted_same}
@@ -55,3 +57,7 @@ returns-in_err-record_one-clause-within c = λ n h. c.record_one.ensures.within 
 pub returns-in_err-record_one-clause-same : goal.returns-in_err-record_one-clause-same
 returns-in_err-record_one-clause-same c = same_then c.args.lines.now.items c.loop-number.lines.items
     c.record_one.new.lines.items c.loop-number.invariant.same c.record_one.ensures.same
+
+pub returns-clause-few : goal.returns-clause-few
+returns-clause-few c = same_sum pieces_on c.args.lines.now.items c.loop-number.lines.items
+    c.loop-number.invariant.same.long (λ k d lt. (c.loop-number.invariant.stepped k d lt).spans.long)

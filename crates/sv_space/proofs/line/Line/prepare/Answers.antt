@@ -1,4 +1,4 @@
-use Rattle.std.proofs.Common.{ℕ, List, Contains, length, subst, sym}
+use Rattle.std.proofs.Common.{ℕ, List, Contains, arith, length, subst, sym}
 use Rattle.std.proofs.lemmas.Result.{IfOk-weaker, on_ok_weaker}
 use Rattle.sv_space.specs.Cut.{ArePlacesOf}
 use Rattle.sv_space.specs.Pieces.{IsLineOf}
@@ -101,3 +101,9 @@ returns-clause-none c = IfOk-weaker c.catch_up.result _ _ (λ given none was. (
     subst (λ (xs : List ℕ). Contains xs k) c.as_slice.ensures.value on in
     let w = placed.has k d here in
     caught k w.0 d (placed.listed k here) w.1 w.2))) c.catch_up.ensures.none
+
+pub returns-clause-few : goal.returns-clause-few
+returns-clause-few c = on_ok_weaker c.catch_up.result (λ later.
+    let long = c.catch_up.ensures.spans.long in
+    let few = c.in_ok-cut.ensures.few in
+    omega (arith, long, few)) c.catch_up.ensures.later
