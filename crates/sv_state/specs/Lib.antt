@@ -1,4 +1,5 @@
 pub mod Tokens
+pub mod Turns
 pub mod Masks
 pub mod States
 pub mod Alike

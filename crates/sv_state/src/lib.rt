@@ -12,6 +12,7 @@ mod key;
 mod mask;
 mod outlines;
 mod reached;
+mod runs;
 mod set;
 mod settled;
 mod state;

@@ -1,81 +1,29 @@
 //! What is reached by the steps before the present one.
-ghost use Rattle.std.specs.Prelude.{◌≡◌, [], IsTrue, true, ◌↔◌, IfOk, OnOk};
-ghost use Rattle.sv_model.specs.declared.work.Track.{Track};
-ghost use Rattle.sv_state.specs.Masks.{Adds, Holds, Joins, LeadsInto, Mark, Marked, mark_for, ShownTo};
-ghost use Rattle.sv_state.specs.Tokens.{GoesOn, LeadsFrom, SomeLeads, masks_of, runs_masks};
+ghost use Rattle.sv_state.specs.Turns.{AreInTurn, HaveTokens};
 
 use crate::mask::{Mask, Masks, add, cover, leads_into, marked_on};
+use crate::runs::{Run, add_token, end_before, token_leads};
 use std::alloc::{AllocError, Global};
-use sv_mask::{Stages, Usage, Usages};
+use sv_mask::Usage;
 use sv_model::work::{Access, Dep, Track};
 
-/// What is reached on the tokens from `first` to `last`: on each the same.
-#[derive(Clone, Copy)]
-pub struct Run {
-    pub first: u64,
-    pub last: u64,
-    pub stages: Stages,
-    pub usages: Usages,
-}
-
-/// Masks of queues and subpasses, and runs of tokens. The tokens of a trace are numbered in the order in
-/// which they are made, and mostly the same is reached on each, so a run goes on with the next token.
+/// Masks of queues and subpasses, and runs of tokens in their order. The tokens of a trace are numbered in
+/// the order in which they are made, and mostly the same is reached on each, so a run goes on with the next
+/// token. A token that comes out of turn has a mask.
 #[derive(Drop)]
 pub struct Settled {
     pub masks: Masks,
     pub runs: Vec<Run>,
-}
-
-/// Whether the run goes on with this token and mask.
-fn goes_on(r: Run, token: u64, m: Mask) -> bool
-    ensures { result ≡ true → GoesOn r token m }
-{
-    let next = r.last < token && token - r.last == 1 && r.first <= token;
-    next && r.stages.0 == m.stages.0 && r.usages.0 == m.usages.0
-}
-
-/// Adds what is reached on a token.
-fn add_token(runs: &mut Vec<Run>, token: u64, more: Mask) -> Result<(), AllocError>
-    requires { more.track ≡ Track.Token token }
-    ensures { OnOk result (Adds (runs_masks runs.old.items) (runs_masks runs.new.items) more) }
-{
-    let count = runs.len();
-    if count > 0 {
-        let r = runs[count - 1];
-        if goes_on(r, token, more) {
-            runs[count - 1] = Run { last: token, ..r };
-            return Ok(());
-        }
-    }
-    runs.push(Run {
-        first: token,
-        last: token,
-        stages: more.stages,
-        usages: more.usages,
-    })?;
-    Ok(())
-}
-
-/// Whether d may follow what is reached on one of the tokens of the run.
-fn leads_from(r: Run, token: u64, d: &Dep) -> bool
-    ensures { IsTrue result ↔ LeadsFrom token d.now r }
-{
-    r.first <= token && token <= r.last && r.stages.meets(d.s1)
-}
-
-/// Whether d, which comes from this token, may follow what is reached.
-fn token_leads(runs: &[Run], token: u64, d: &Dep) -> bool
-    ensures { IsTrue result ↔ SomeLeads runs.now token d.now }
-{
-    for r in runs {
-        if leads_from(*r, token, d) {
-            return true;
-        }
-    }
-    false
+    pub ghost in_turn: { AreInTurn runs.items },
+    pub ghost have_tokens: { HaveTokens runs.items },
 }
 
 impl Settled {
+    ghost use Rattle.std.specs.Prelude.{◌≡◌, [], IsTrue, true, ◌↔◌, IfOk, OnOk};
+    ghost use Rattle.sv_model.specs.declared.work.Track.{Track};
+    ghost use Rattle.sv_state.specs.Masks.{Adds, Holds, Joins, LeadsInto, Mark, Marked, mark_for, ShownTo};
+    ghost use Rattle.sv_state.specs.Tokens.{masks_of};
+
     /// Nothing is reached yet.
     pub fn new(alloc: Global) -> Settled
         ensures { masks_of result ≡ [] }
@@ -100,8 +48,20 @@ impl Settled {
         ensures { OnOk result (Adds (masks_of self.old) (masks_of self.new) more) }
     {
         match more.track {
-            Track::Token(token) => add_token(&mut self.runs, token, more),
+            Track::Token(token) => self.add_on(token, more),
             _ => add(&mut self.masks, more),
+        }
+    }
+
+    /// Adds what is reached on a token: to the runs where it is behind them, so that they stay in order.
+    fn add_on(&mut self, token: u64, more: Mask) -> Result<(), AllocError>
+        requires { more.track ≡ Track.Token token }
+        ensures { OnOk result (Adds (masks_of self.old) (masks_of self.new) more) }
+    {
+        if end_before(&self.runs, token) {
+            add_token(&mut self.runs, token, more)
+        } else {
+            add(&mut self.masks, more)
         }
     }
 

@@ -1,6 +1,5 @@
 use Rattle.std.proofs.Common.{◌≡◌, ◌∙◌, ◌∷◌, ◌++◌, [], List, ap, get_or, map, sym, take}
 use Rattle.std.proofs.lemmas.List.{map-append, map_more}
-use Rattle.sv_state.specs.declared.entry.Entry.{Entry}
 use Rattle.sv_state.specs.Contents.{Item, item_of}
 use Rattle.sv_state.proofs.copying.copies_of.Goals as goal
 

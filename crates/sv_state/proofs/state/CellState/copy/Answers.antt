@@ -1,6 +1,5 @@
 use Rattle.std.proofs.Common.{◌≡◌, ◌∙◌, List, ap, map}
-use Rattle.sv_state.specs.declared.entry.Entry.{Entry}
-use Rattle.sv_state.specs.Contents.{Item, contents_of, item_of}
+use Rattle.sv_state.specs.Contents.{Item, item_of}
 use Rattle.sv_state.proofs.state.CellState.copy.Goals as goal
 
 pub returns : goal.returns

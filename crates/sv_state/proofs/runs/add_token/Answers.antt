@@ -1,0 +1,47 @@
+use Rattle.std.proofs.Common.{List, ◌-◌, arith, refl, sym, subst}
+use Rattle.sv_state.specs.declared.runs.Run.{Run}
+use Rattle.sv_state.specs.Masks.{Adds}
+use Rattle.sv_state.specs.Tokens.{runs_masks}
+use Rattle.sv_state.specs.Turns.{AreInTurn, HaveTokens}
+use Rattle.sv_state.proofs.Tokens.{token_pushed, token_goes_on}
+use Rattle.sv_state.proofs.Turns.{have_longer, have_push, turn_longer, turn_push}
+use Rattle.sv_state.proofs.runs.add_token.Goals as goal
+
+pub returns-then-goes_on-clause-adds : goal.returns-then-goes_on-clause-adds
+returns-then-goes_on-clause-adds c =
+    token_goes_on c.args.runs.now.items c.args.token c.args.more c.requires.token
+    (c.len-count.result - 1) c.index-r.result.now
+    (omega (arith, c.len-count.ensures, c.args.runs.now.ok)) c.index-r.ensures
+    (c.goes_on.ensures c.if-goes_on.true)
+
+pub returns-then-goes_on-clause-in_turn : goal.returns-then-goes_on-clause-in_turn
+returns-then-goes_on-clause-in_turn c =
+    let r = c.index-r.result.now in
+    turn_longer c.args.runs.now.items c.requires.in_turn c.requires.have_tokens
+    (c.len-count.result - 1) r
+    (record { first = r.first; last = c.args.token; stages = r.stages; usages = r.usages })
+    c.index-r.ensures (omega (arith, c.len-count.ensures, c.args.runs.now.ok)) refl
+
+pub returns-then-goes_on-clause-have_tokens : goal.returns-then-goes_on-clause-have_tokens
+returns-then-goes_on-clause-have_tokens c =
+    let r = c.index-r.result.now in
+    let on = c.goes_on.ensures c.if-goes_on.true in
+    have_longer c.args.runs.now.items c.requires.in_turn c.requires.have_tokens
+    (c.len-count.result - 1) r
+    (record { first = r.first; last = c.args.token; stages = r.stages; usages = r.usages })
+    c.index-r.ensures (omega (arith, c.len-count.ensures, c.args.runs.now.ok)) refl on.low
+
+pub returns-clause-adds : goal.returns-clause-adds
+returns-clause-adds c =
+    subst (λ (rs : List Run). Adds (runs_masks c.args.runs.now.items) (runs_masks rs) c.args.more)
+    (sym c.in_ok-push.ensures.items) (token_pushed c.args.runs.now.items c.args.token c.args.more
+    c.requires.token)
+
+pub returns-clause-in_turn : goal.returns-clause-in_turn
+returns-clause-in_turn c = subst (λ (rs : List Run). AreInTurn rs) (sym c.in_ok-push.ensures.items)
+    (turn_push c.args.runs.now.items c.requires.in_turn c.requires.have_tokens c.args.token _ refl
+    c.requires.behind)
+
+pub returns-clause-have_tokens : goal.returns-clause-have_tokens
+returns-clause-have_tokens c = subst (λ (rs : List Run). HaveTokens rs) (sym c.in_ok-push.ensures.items)
+    (have_push c.args.runs.now.items c.requires.in_turn c.requires.have_tokens _ refl)
