@@ -1,6 +1,6 @@
 -- What outlines tell of the dependencies that have them.
 use Rattle.std.proofs.Common.{ℕ, Bool, true, false, MatchBool, ◌≡◌, ◌<◌, List, ◌⊎◌, inl, inr, arith}
-use Rattle.std.proofs.Common.{refl, sym, ◌∙◌, ap, subst, None, length, get_or, IsTrue, ◌↔◌}
+use Rattle.std.proofs.Common.{◌++◌, refl, sym, ◌∙◌, ap, subst, None, length, get_or, IsTrue, ◌↔◌}
 use Rattle.std.proofs.lemmas.List.Elements.{Contains-append_left, Contains-get_or}
 use Rattle.sv_mask.specs.Sets.{Has, Includes}
 use Rattle.sv_mask.specs.Usages.{stage_of}
@@ -16,7 +16,7 @@ use Rattle.sv_model.specs.declared.work.What.TheVariants.{Use, Transition}
 use Rattle.sv_mask.specs.declared.usage.Usage.{Usage}
 use Rattle.sv_state.specs.Masks.{Mark, stage, usage, Marked, Gives, Holds, IsMaskOf, LeadsInto, Stands}
 use Rattle.sv_state.specs.Outlines.{IsSaturated, loose, outline}
-use Rattle.sv_state.specs.Tokens.{masks_of, runs_masks}
+use Rattle.sv_state.specs.Numbers.{masks_of, on_token, runs_masks, subs_masks}
 use Rattle.sv_state.specs.declared.mask.Mask.{Mask}
 use Rattle.sv_state.specs.declared.reached.Reached.{Reached}
 use Rattle.sv_state.specs.declared.settled.Settled.{Settled}
@@ -40,7 +40,8 @@ pub holds_settled : (s : Settled) (t : Track) (k : Mark) → Holds s.masks.items
 holds_settled s t k (m, by) = (
   m,
   record {
-    listed = Contains-append_left s.masks.items (runs_masks s.runs.items) m by.listed;
+    listed = Contains-append_left s.masks.items
+        (runs_masks on_token s.runs.items ++ subs_masks s.subs.items) m by.listed;
     track = by.track;
     marked = by.marked;
   },

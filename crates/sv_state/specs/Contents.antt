@@ -1,7 +1,7 @@
 -- What a state holds, wherever in memory it lies.
 use Rattle.std.specs.Prelude.{ℕ, Bool, List, map}
 use Rattle.sv_model.specs.declared.work.Access.{Access}
-use Rattle.sv_state.specs.Tokens.{masks_of}
+use Rattle.sv_state.specs.Numbers.{masks_of}
 use Rattle.sv_state.specs.declared.mask.Mask.{Mask}
 use Rattle.sv_state.specs.declared.entry.Entry.{Entry}
 use Rattle.sv_state.specs.declared.state.CellState.{CellState}

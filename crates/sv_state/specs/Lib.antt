@@ -1,4 +1,4 @@
-pub mod Tokens
+pub mod Numbers
 pub mod Turns
 pub mod Masks
 pub mod States

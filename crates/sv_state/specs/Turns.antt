@@ -1,5 +1,5 @@
--- Runs in the order of their tokens.
-use Rattle.std.specs.Prelude.{ℕ, ◌<◌, ◌≤◌, List}
+-- Runs in the order of their numbers.
+use Rattle.std.specs.Prelude.{ℕ, ◌<◌, ◌≤◌, ◌-◌, List, length, slice_index_or}
 use Rattle.std.specs.List.{All, AllPairs}
 use Rattle.sv_state.specs.declared.runs.Run.{Run}
 
@@ -7,10 +7,19 @@ use Rattle.sv_state.specs.declared.runs.Run.{Run}
 abbrev pub AreInTurn : List Run → Type 0
 AreInTurn runs = AllPairs (λ (r s : Run). r.last < s.first) runs
 
--- each run has a token
-abbrev pub HaveTokens : List Run → Type 0
-HaveTokens runs = All (λ (r : Run). r.first ≤ r.last) runs
+-- each run has a number
+abbrev pub HaveNumbers : List Run → Type 0
+HaveNumbers runs = All (λ (r : Run). r.first ≤ r.last) runs
 
--- each run ends before the token
+-- each run ends before the number
 abbrev pub EndBefore : ℕ → List Run → Type 0
-EndBefore token runs = All (λ (r : Run). r.last < token) runs
+EndBefore number runs = All (λ (r : Run). r.last < number) runs
+
+-- the last run, if there is one, does not end behind the number
+abbrev pub EndBy : ℕ → List Run → Type 0
+EndBy number runs = (d : Run) → 0 < length runs → (slice_index_or runs (length runs - 1) d).last ≤ number
+
+-- there is a last run, and it does not end before the number
+pub record Reach (number : ℕ) (runs : List Run) : Type 0 where
+  pub some : 0 < length runs
+  pub last : (d : Run) → number ≤ (slice_index_or runs (length runs - 1) d).last

@@ -16,6 +16,8 @@ mod runs;
 mod set;
 mod settled;
 mod state;
+mod sub_runs;
+mod subs;
 #[cfg(test)]
 mod tests;
 

@@ -11,7 +11,7 @@ ghost use Rattle.sv_model.specs.declared.work.Cell.{Cell};
 ghost use Rattle.sv_model.specs.declared.work.What.{What};
 ghost use Rattle.sv_state.specs.Masks.{Holds, LeadsInto, Mark, Marked, Stands};
 ghost use Rattle.sv_state.specs.Outlines.{IsQuiet, outline};
-ghost use Rattle.sv_state.specs.Tokens.{masks_of};
+ghost use Rattle.sv_state.specs.Numbers.{masks_of};
 
 use crate::mask::{Mask, Masks, add, cover, is_on, leads_into, marked_on, mask_of, within};
 use crate::set::{has_stage_of, has_usage};

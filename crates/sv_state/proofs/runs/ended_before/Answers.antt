@@ -13,7 +13,7 @@ loop-low-preserved-then-runs-middle c =
     let in_list : m < length c.args.runs.now = omega (arith, half, t, h) in (
       omega (arith, half, t),
       was.1,
-      ends_below c.args.runs.now c.requires.in_turn c.requires.have_tokens m c.args.token _ in_list
+      ends_below c.args.runs.now c.requires.in_turn c.requires.have_numbers m c.args.number _ in_list
           c.if-runs-middle.true,
       was.3,
     )
@@ -29,6 +29,6 @@ loop-low-preserved c =
       omega arith,
       omega (arith, in_list),
       was.2,
-      ends_behind c.args.runs.now c.requires.in_turn c.requires.have_tokens m c.args.token _ in_list
+      ends_behind c.args.runs.now c.requires.in_turn c.requires.have_numbers m c.args.number _ in_list
           c.if-runs-middle.false,
     )

@@ -1,20 +1,19 @@
-use Rattle.std.proofs.Common.{◌≡◌, false, true}
-use Rattle.sv_state.proofs.Turns.{leads_at, none_leads, some_at}
+use Rattle.sv_state.specs.Masks.{Leads}
+use Rattle.sv_state.specs.Numbers.{on_token, runs_masks}
+use Rattle.sv_state.proofs.Instances.{token_track, tokens_apart}
+use Rattle.sv_state.proofs.Parts.{none_found, one_found}
 use Rattle.sv_state.proofs.runs.token_leads.Goals as goal
 
-pub returns-then-place-runs : goal.returns-then-place-runs
-returns-then-place-runs c =
-    let at = c.ended_before-place.result in
-    let found = c.ended_before-place.ensures in (
-      λ t. some_at c.args.runs.now at c.args.token c.args.d.now _ c.if-place-runs.true
-          (c.leads_from.ensures.0 t),
-      λ some. c.leads_from.ensures.1 (leads_at c.args.runs.now c.requires.in_turn c.requires.have_tokens at
-          c.args.token c.args.d.now _ c.if-place-runs.true found.before found.behind some),
-    )
+pub returns-in-Some : goal.returns-in-Some
+returns-in-Some c =
+    let d = c.args.d.now in
+    one_found (λ m. Leads m d) (runs_masks on_token c.args.runs.now) d.from c.in-Some.m c.leads.result
+    (c.in-Some.ensures on_token c.requires.from (tokens_apart c.args.token))
+    (λ n on by. token_track c.args.runs.now d c.args.token n c.requires.from on by) c.leads.ensures
 
-pub returns-else-place-runs : goal.returns-else-place-runs
-returns-else-place-runs c = (
-  λ t. absurd (let f : false ≡ true = t in cc),
-  λ some. absurd (none_leads c.args.runs.now c.ended_before-place.result c.args.token c.args.d.now
-      c.if-place-runs.false c.ended_before-place.ensures.before some),
-)
+pub returns-in-None : goal.returns-in-None
+returns-in-None c =
+    let d = c.args.d.now in
+    none_found (λ m. Leads m d) (runs_masks on_token c.args.runs.now) d.from
+    (c.in-None.ensures on_token c.requires.from (tokens_apart c.args.token))
+    (λ n on by. token_track c.args.runs.now d c.args.token n c.requires.from on by)

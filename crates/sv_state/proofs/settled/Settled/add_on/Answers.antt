@@ -1,13 +1,14 @@
+use Rattle.std.proofs.Common.{◌++◌}
 use Rattle.std.proofs.lemmas.Result.{on_ok_weaker}
-use Rattle.sv_state.specs.Tokens.{runs_masks}
-use Rattle.sv_state.proofs.Tokens.{Adds-left, Adds-right}
+use Rattle.sv_state.specs.Numbers.{on_token, runs_masks, subs_masks}
+use Rattle.sv_state.proofs.Parts.{Adds-left, Adds-right}
 use Rattle.sv_state.proofs.settled.Settled.add_on.Goals as goal
 
-pub returns-then-end_before : goal.returns-then-end_before
-returns-then-end_before c = on_ok_weaker c.add_token.result (λ a. Adds-right c.args.self.now.masks.items
-    (runs_masks c.args.self.now.runs.items) (runs_masks c.add_token.new.runs.items) c.args.more a)
-    c.add_token.ensures.adds
-
-pub returns-else-end_before : goal.returns-else-end_before
-returns-else-end_before c = on_ok_weaker c.add.result (λ a. Adds-left c.args.self.now.masks.items
-    c.add.new.masks.items (runs_masks c.args.self.now.runs.items) c.args.more a) c.add.ensures
+pub returns-then-end_by : goal.returns-then-end_by
+returns-then-end_by c =
+    let s = c.args.self.now in
+    let subs = subs_masks s.subs.items in
+    let old = runs_masks on_token s.runs.items in
+    let new = runs_masks on_token c.add_at.new.runs.items in
+    on_ok_weaker c.add_at.result (λ a. Adds-right s.masks.items (old ++ subs) (new ++ subs) c.args.more
+    (Adds-left old new subs c.args.more (a on_token c.requires))) c.add_at.ensures.adds
