@@ -142,7 +142,10 @@ module _ (t : Trace) (m : Made) (w : Work) (left : IsLeft t m w) where
     left_untaken took k is = left_with k (is ∙ ap
         (λ (b : Bool). (if b then m else record m {
           events =
-              record { event = event; set = Some (record { queue = queue; groups = groups; token = m.tokens }) }
+              record {
+                event = event;
+                set = Some (record { queue = queue; groups = groups; token = m.tokens });
+              }
               ∷ m.events;
           tokens = m.tokens + length groups;
         }).tokens)

@@ -88,7 +88,8 @@ said_there n (l ∷ lines) i e = elim (line_says n l) [
       subst (SaysThere n (l ∷ lines)) (sym m.2) (
         omega (arith, rest.0),
         rest.1
-            ∙ ap (λ (o : Option Pass). slice_get (cons_option o (filter_map (says_pass n) lines)) 0) (sym q.0),
+            ∙ ap (λ (o : Option Pass). slice_get (cons_option o (filter_map (says_pass n) lines)) 0)
+            (sym q.0),
       )
   | inr q ↦
       let zero_is : 0 ≡ i = (let h : Some 0 ≡ Some i =
@@ -96,7 +97,8 @@ said_there n (l ∷ lines) i e = elim (line_says n l) [
       subst (SaysThere n (l ∷ lines)) zero_is (
         omega arith,
         ap (λ (o : Option Pass). slice_get (cons_option o []) 0) q.1
-            ∙ ap (λ (o : Option Pass). slice_get (cons_option o (filter_map (says_pass n) lines)) 0) (sym q.1),
+            ∙ ap (λ (o : Option Pass). slice_get (cons_option o (filter_map (says_pass n) lines)) 0)
+            (sym q.1),
       )
 ]
 

@@ -203,9 +203,10 @@ module _ (t : Trace) (event : ℕ) (old more : List Bound) (b : Bound)
       → IsReplySoFar t event old (more ++ b ∷ []) after
   goes_on before after reports ls os ns n runs l w notes none e so_far k new_reports number new_notes =
       record {
-        reports = subst (λ (rs : List Report). AreReportsFrom (length old) (steps_in (old ++ (more ++ b ∷ [])))
-            (spots_of rs)) (sym new_reports) (reports_after before.reports reports so_far.reports so_far.runs n
-            runs);
+        reports = subst (λ (rs : List Report).
+            AreReportsFrom (length old) (steps_in (old ++ (more ++ b ∷ []))) (spots_of rs))
+            (sym new_reports)
+            (reports_after before.reports reports so_far.reports so_far.runs n runs);
         runs = subst AreRuns (sym new_reports) (runs_after before.reports reports so_far.reports so_far.runs n
             runs);
         notes = subst (λ (cells : List Note). AreGreatestNotes cells after.notes) (sym cells)

@@ -85,8 +85,9 @@ noted_if : (k bound : ℕ) (b : Bool) → k < bound → (notes : List Note)
 noted_if k bound true lt notes = all_noted k bound lt notes
 noted_if k bound false lt notes = All-nil (IsBelow bound)
 
-pub notes_below : (t : Trace) (event bound : ℕ) (before : Before) (n : ℕ) (more : List Bound) → n + length more
-    ≤ bound → All (IsBelow bound) (gather (before_next t) (noted_by t event) before (enumerate_from n more))
+pub notes_below : (t : Trace) (event bound : ℕ) (before : Before) (n : ℕ) (more : List Bound)
+    → n + length more ≤ bound
+    → All (IsBelow bound) (gather (before_next t) (noted_by t event) before (enumerate_from n more))
 notes_below t event bound before n [] le = All-nil (IsBelow bound)
 notes_below t event bound before n (b ∷ more) le =
     All-append (IsBelow bound) (noted_by t event before (n, b))

@@ -146,8 +146,8 @@ module _ (t : Trace) (lawful : IsLawful t) where
         owners = (
           short.0,
           All-weaker (λ (g : Group). IsGroupOf t g × IsShortGroup g)
-              (owner_taking.GroupFits c.owners.map) (λ g h. owner_group c.owners has.owners g h.1 h.0 g.transfer
-              refl) list both,
+              (owner_taking.GroupFits c.owners.map)
+              (λ g h. owner_group c.owners has.owners g h.1 h.0 g.transfer refl) list both,
         );
       }
   step_fits c has n (SetEvent event place list) next is short = absurd short

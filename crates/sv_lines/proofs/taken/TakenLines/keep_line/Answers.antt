@@ -67,7 +67,8 @@ keep_command-requires-in-SetEvent-clause-begun c =
     c.requires.passes)
 
 pub
-    keep_command-requires-in-SetEvent-clause-not_ended : goal.keep_command-requires-in-SetEvent-clause-not_ended
+    keep_command-requires-in-SetEvent-clause-not_ended
+    : goal.keep_command-requires-in-SetEvent-clause-not_ended
 keep_command-requires-in-SetEvent-clause-not_ended c =
     before_end _ _ (subst (λ (l : Line). rule_cause c.args.self.now l ≡ None) c.in-SetEvent.is
     c.requires.passes)
@@ -81,7 +82,8 @@ keep_command-requires-in-WaitEvent-clause-begun c =
     c.requires.passes)
 
 pub
-    keep_command-requires-in-WaitEvent-clause-not_ended : goal.keep_command-requires-in-WaitEvent-clause-not_ended
+    keep_command-requires-in-WaitEvent-clause-not_ended
+    : goal.keep_command-requires-in-WaitEvent-clause-not_ended
 keep_command-requires-in-WaitEvent-clause-not_ended c =
     before_end _ _ (subst (λ (l : Line). rule_cause c.args.self.now l ≡ None) c.in-WaitEvent.is
     c.requires.passes)
@@ -95,23 +97,27 @@ keep_command-requires-in-ResetEvent-clause-begun c =
     c.requires.passes)
 
 pub
-    keep_command-requires-in-ResetEvent-clause-not_ended : goal.keep_command-requires-in-ResetEvent-clause-not_ended
+    keep_command-requires-in-ResetEvent-clause-not_ended
+    : goal.keep_command-requires-in-ResetEvent-clause-not_ended
 keep_command-requires-in-ResetEvent-clause-not_ended c =
     before_end _ _ (subst (λ (l : Line). rule_cause c.args.self.now l ≡ None) c.in-ResetEvent.is
     c.requires.passes)
 
 pub
-    keep_command-requires-in-BeginRendering-clause-few : goal.keep_command-requires-in-BeginRendering-clause-few
+    keep_command-requires-in-BeginRendering-clause-few
+    : goal.keep_command-requires-in-BeginRendering-clause-few
 keep_command-requires-in-BeginRendering-clause-few c = few_lines c.args.self.now c.args.line c.requires.passes
 
 pub
-    keep_command-requires-in-BeginRendering-clause-begun : goal.keep_command-requires-in-BeginRendering-clause-begun
+    keep_command-requires-in-BeginRendering-clause-begun
+    : goal.keep_command-requires-in-BeginRendering-clause-begun
 keep_command-requires-in-BeginRendering-clause-begun c =
     goes_on _ _ (subst (λ (l : Line). rule_cause c.args.self.now l ≡ None) c.in-BeginRendering.is
     c.requires.passes)
 
 pub
-    keep_command-requires-in-BeginRendering-clause-not_ended : goal.keep_command-requires-in-BeginRendering-clause-not_ended
+    keep_command-requires-in-BeginRendering-clause-not_ended
+    : goal.keep_command-requires-in-BeginRendering-clause-not_ended
 keep_command-requires-in-BeginRendering-clause-not_ended c =
     before_end _ _ (subst (λ (l : Line). rule_cause c.args.self.now l ≡ None) c.in-BeginRendering.is
     c.requires.passes)
@@ -120,13 +126,15 @@ pub keep_command-requires-in-EndRendering-clause-few : goal.keep_command-require
 keep_command-requires-in-EndRendering-clause-few c = few_lines c.args.self.now c.args.line c.requires.passes
 
 pub
-    keep_command-requires-in-EndRendering-clause-begun : goal.keep_command-requires-in-EndRendering-clause-begun
+    keep_command-requires-in-EndRendering-clause-begun
+    : goal.keep_command-requires-in-EndRendering-clause-begun
 keep_command-requires-in-EndRendering-clause-begun c =
     goes_on _ _ (subst (λ (l : Line). rule_cause c.args.self.now l ≡ None) c.in-EndRendering.is
     c.requires.passes)
 
 pub
-    keep_command-requires-in-EndRendering-clause-not_ended : goal.keep_command-requires-in-EndRendering-clause-not_ended
+    keep_command-requires-in-EndRendering-clause-not_ended
+    : goal.keep_command-requires-in-EndRendering-clause-not_ended
 keep_command-requires-in-EndRendering-clause-not_ended c =
     before_end _ _ (subst (λ (l : Line). rule_cause c.args.self.now l ≡ None) c.in-EndRendering.is
     c.requires.passes)
@@ -140,7 +148,8 @@ keep_command-requires-in-BeginPass-clause-begun c =
     c.requires.passes)
 
 pub
-    keep_command-requires-in-BeginPass-clause-not_ended : goal.keep_command-requires-in-BeginPass-clause-not_ended
+    keep_command-requires-in-BeginPass-clause-not_ended
+    : goal.keep_command-requires-in-BeginPass-clause-not_ended
 keep_command-requires-in-BeginPass-clause-not_ended c =
     before_end _ _ (subst (λ (l : Line). rule_cause c.args.self.now l ≡ None) c.in-BeginPass.is
     c.requires.passes)
@@ -154,7 +163,8 @@ keep_command-requires-in-NextSubpass-clause-begun c =
     c.requires.passes)
 
 pub
-    keep_command-requires-in-NextSubpass-clause-not_ended : goal.keep_command-requires-in-NextSubpass-clause-not_ended
+    keep_command-requires-in-NextSubpass-clause-not_ended
+    : goal.keep_command-requires-in-NextSubpass-clause-not_ended
 keep_command-requires-in-NextSubpass-clause-not_ended c =
     before_end _ _ (subst (λ (l : Line). rule_cause c.args.self.now l ≡ None) c.in-NextSubpass.is
     c.requires.passes)
