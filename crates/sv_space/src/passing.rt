@@ -1,9 +1,9 @@
 //! Which of the next groups add nothing to a state, by the numbers of their patterns.
 ghost use Rattle.std.specs.Prelude.{◌≡◌, ◌<◌, ◌≤◌, ◌*◌, ℕ, IfSome, true, false, length};
-ghost use Rattle.sv_space.specs.Patterns.{AreMarked, AreQuietFrom, AreQuietPatterns, IsBlockIn};
+ghost use Rattle.sv_space.specs.Patterns.{AreMarked, AreQuietFrom, AreQuietPatterns, IsQuietPart};
 ghost use Rattle.sv_space.specs.Patterns.{IsQuietPattern};
 
-use crate::marks::{BLOCK, has, includes, with};
+use crate::marks::{BLOCK, Block, clear_from, has, includes, with};
 use crate::pattern::{MOST, Pattern};
 use sv_state::CellState;
 
@@ -27,12 +27,18 @@ fn may_add(state: &CellState, patterns: &Vec<Pattern>, number: u8, quiet: &mut u
     false
 }
 
-// Whether the place begins a block of which all are known to add nothing.
-fn is_quiet_block(blocks: &Vec<u64>, place: usize, quiet: u64) -> bool
+// The place behind those of its block, from that one on, that are known to add nothing; the place itself where
+// it is not known of it.
+fn quiet_until(blocks: &Vec<Block>, place: usize, quiet: u64) -> usize
     requires { place < 64 * length blocks.now.items }
-    ensures { result ≡ true → IsBlockIn place blocks.now.items quiet }
+    ensures first { place ≤ result }
+    ensures quiet { place < result → IsQuietPart place result blocks.now.items quiet }
 {
-    place % BLOCK == 0 && includes(quiet, blocks[place / BLOCK])
+    let block = blocks[place / BLOCK];
+    if !includes(quiet, block.patterns) {
+        return place;
+    }
+    place + clear_from(block.lone, place % BLOCK)
 }
 
 // The place behind some, from that one on, that add nothing to the state; None where the first one may.
@@ -40,7 +46,7 @@ fn pass(
     state: &CellState,
     patterns: &Vec<Pattern>,
     numbers: &Vec<u8>,
-    blocks: &Vec<u64>,
+    blocks: &Vec<Block>,
     place: usize,
     quiet: &mut u64,
 ) -> Option<usize>
@@ -52,8 +58,9 @@ fn pass(
     ensures quiet { IfSome result (λ next. AreQuietFrom place next state.now patterns.now.items
         numbers.now.items) }
 {
-    if is_quiet_block(blocks, place, *quiet) {
-        return Some(place + BLOCK);
+    let next = quiet_until(blocks, place, *quiet);
+    if place < next {
+        return Some(next);
     }
     if may_add(state, patterns, numbers[place], quiet) {
         return None;
@@ -67,7 +74,7 @@ pub fn next_in(
     state: &CellState,
     patterns: &Vec<Pattern>,
     numbers: &Vec<u8>,
-    blocks: &Vec<u64>,
+    blocks: &Vec<Block>,
     from: usize,
 ) -> usize
     requires { AreMarked numbers.now.items blocks.now.items }

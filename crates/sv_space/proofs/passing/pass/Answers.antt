@@ -1,12 +1,7 @@
 use Rattle.std.proofs.Common.{ℕ, subst}
 use Rattle.sv_space.specs.Patterns.{IsQuietPattern}
-use Rattle.sv_space.proofs.Patterned.{quiet_block, quiet_one}
+use Rattle.sv_space.proofs.Patterned.{quiet_one, quiet_part}
 use Rattle.sv_space.proofs.passing.pass.Goals as goal
-
-pub returns-then-is_quiet_block-clause-quiet : goal.returns-then-is_quiet_block-clause-quiet
-returns-then-is_quiet_block-clause-quiet c = quiet_block c.args.state.now c.args.patterns.now.items
-    c.args.numbers.now.items c.args.blocks.now.items c.args.place c.args.quiet.now c.requires.marked
-    c.requires.known (c.is_quiet_block.ensures c.if-is_quiet_block.true)
 
 pub returns-clause-quiet : goal.returns-clause-quiet
 returns-clause-quiet c = quiet_one c.args.state.now c.args.patterns.now.items c.args.numbers.now.items
