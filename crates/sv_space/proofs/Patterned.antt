@@ -370,19 +370,20 @@ in_part place j b is le lt =
 
 -- the numbers of a part of a block whose patterns are quiet
 pub quiet_part : (state : CellState) (patterns : List Pattern) (numbers : List ℕ) (blocks : List Block)
-    (place next known : ℕ) → AreMarked numbers blocks → AreQuietPatterns state patterns known
-    → IsQuietPart place next blocks known → AreQuietFrom place next state patterns numbers
-quiet_part state patterns numbers blocks place next known marked are part j d le lt within =
-    let room = part.within in
-    let none : Block = record { patterns = 0; lone = 0 } in
+    (block : Block) (place count known : ℕ) → AreMarked numbers blocks
+    → AreQuietPatterns state patterns known → block ≡ get_or blocks (place / 64) block
+    → place % 64 + count ≤ 64 → IsQuietPart (place % 64) count block known
+    → AreQuietFrom place (place + count) state patterns numbers
+quiet_part state patterns numbers blocks block place count known marked are is room part j d le lt within =
     let n : ℕ = get_or numbers j d in
     let here = in_part place j (place / 64) refl le (omega (arith, room, le, lt)) in
-    let told : Tells (get_or blocks (place / 64) none) (place % 64 + (j - place)) n =
-    subst (λ i. Tells (get_or blocks i none) (place % 64 + (j - place)) n) here.0
-    (subst (λ i. Tells (get_or blocks (j / 64) none) i n) here.1 (marked.told j d none within)) in
+    let told : Tells block (place % 64 + (j - place)) n =
+    subst (λ (b : Block). Tells b (place % 64 + (j - place)) n) (sym is)
+    (subst (λ i. Tells (get_or blocks i block) (place % 64 + (j - place)) n) here.0
+    (subst (λ i. Tells (get_or blocks (j / 64) block) i n) here.1 (marked.told j d block within))) in
     elim (cases_lt n most) [
-      | inl less ↦ are n (part.includes none n (told.pattern less))
-      | inr over ↦ absurd (part.clear none (place % 64 + (j - place)) (omega arith) (omega (arith, le, lt))
+      | inl less ↦ are n (part.includes n (told.pattern less))
+      | inr over ↦ absurd (part.clear (place % 64 + (j - place)) (omega arith) (omega (arith, le, lt))
           (told.lone over))
     ]
 

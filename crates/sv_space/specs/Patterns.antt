@@ -68,13 +68,10 @@ pub record IsQuietPattern (state : CellState) (patterns : List Pattern) (number 
 abbrev pub AreQuietPatterns : CellState → List Pattern → ℕ → Type 0
 AreQuietPatterns state patterns set = (n : ℕ) → Has set n → IsQuietPattern state patterns n
 
--- from one place up to another, which are in one block, each has a pattern, and the patterns of the block are
--- in the set
-pub record IsQuietPart (from end : ℕ) (blocks : List Block) (set : ℕ) : Type 0 where
-  pub within : from % 64 + (end - from) ≤ 64
-  pub includes : (e : Block) → Includes set (slice_index_or blocks (from / 64) e).patterns
-  pub clear : (e : Block) (k : ℕ) → from % 64 ≤ k → k < from % 64 + (end - from)
-      → ¬ Has (slice_index_or blocks (from / 64) e).lone k
+-- so many places of a block, from this one on, have patterns, and the patterns of the block are in the set
+pub record IsQuietPart (spot count : ℕ) (block : Block) (set : ℕ) : Type 0 where
+  pub includes : Includes set block.patterns
+  pub clear : (k : ℕ) → spot ≤ k → k < spot + count → ¬ Has block.lone k
 
 -- from one place up to another, as far as there are numbers, they are those of patterns of which nothing is
 -- added to the state

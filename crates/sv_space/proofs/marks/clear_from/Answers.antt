@@ -1,5 +1,4 @@
-use Rattle.std.proofs.Common.{arith, refl, ◌≤◌}
-use Rattle.std.specs.Int.{trailing_zeros, w64}
+use Rattle.std.proofs.Common.{arith, refl}
 use Rattle.std.proofs.lemmas.Nat.{shr_le}
 use Rattle.sv_space.proofs.Patterned.{clear_below}
 use Rattle.sv_space.proofs.marks.clear_from.Goals as goal
