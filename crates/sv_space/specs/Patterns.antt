@@ -1,5 +1,5 @@
 -- Patterns of groups, and of which pattern each group of a log is.
-use Rattle.std.specs.Prelude.{ℕ, ◌≡◌, ◌<◌, ◌≤◌, ◌+◌, ◌-◌, ◌*◌, ◌/◌, ◌%◌, List, length, slice_index_or, Contains}
+use Rattle.std.specs.Prelude.{ℕ, ◌≡◌, ◌<◌, ◌≤◌, ◌+◌, ◌*◌, ◌/◌, ◌%◌, List, length, slice_index_or, Contains}
 use Rattle.sv_mask.specs.Sets.{Has, Includes}
 use Rattle.sv_model.specs.declared.work.Dep.{Dep}
 use Rattle.sv_model.specs.declared.work.Group.{Group}

@@ -57,8 +57,8 @@ fn ask(state: &CellState, patterns: &Vec<Pattern>, block: Block, asked: &mut Ask
     if includes(asked.quiet | asked.loud, block.patterns) {
         return;
     }
-    for number in 0..BLOCK as u8 {
-        ask_one(state, patterns, block, number, asked);
+    for number in 0..patterns.len().min(MOST) {
+        ask_one(state, patterns, block, number as u8, asked);
     }
 }
 

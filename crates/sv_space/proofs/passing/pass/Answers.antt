@@ -1,4 +1,4 @@
-use Rattle.std.proofs.Common.{ℕ, ◌%◌, subst}
+use Rattle.std.proofs.Common.{ℕ, subst}
 use Rattle.sv_space.specs.Patterns.{IsQuietPattern}
 use Rattle.sv_space.proofs.Patterned.{quiet_one, quiet_part}
 use Rattle.sv_space.proofs.passing.pass.Goals as goal
