@@ -19,7 +19,7 @@ use Rattle.sv_mask.specs.Sets.{Has}
 use Rattle.sv_model.specs.declared.work.Dep.{Dep}
 use Rattle.sv_model.specs.declared.work.Group.{Group}
 use Rattle.sv_state.specs.Outlines.{AddsNothing, AreQuiet, outline}
-use Rattle.sv_state.specs.States.{entries_of}
+use Rattle.sv_state.specs.States.{live_of}
 use Rattle.sv_state.specs.declared.state.CellState.{CellState}
 use Rattle.sv_state.proofs.Unions.{Has-or, Has-or_left, Has-or_right}
 use Rattle.sv_space.specs.Patterns.{AreMarked, AreMore, AreQuietFrom, AreQuietPatterns, HasOutlines}
@@ -398,12 +398,12 @@ quiet_one state patterns numbers place d within quiet j e le lt lt_j =
 -- a pattern that is asked for
 pub quiet_asked : (state : CellState) (patterns : List Pattern) (n : ℕ) (p : Pattern) (outlines : List Dep)
     → n < most → p ≡ get_or patterns n p → outlines ≡ p.outlines.items
-    → AreQuiet (entries_of state) outlines → IsQuietPattern state patterns n
+    → AreQuiet (live_of state) outlines → IsQuietPattern state patterns n
 quiet_asked state patterns n p outlines small at is quiet = record {
   pattern = p;
   small = small;
   here = sym at;
-  quiet = subst (λ (ds : List Dep). AreQuiet (entries_of state) ds) is quiet;
+  quiet = subst (λ (ds : List Dep). AreQuiet (live_of state) ds) is quiet;
 }
 
 -- some places, and then others

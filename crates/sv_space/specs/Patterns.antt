@@ -4,7 +4,7 @@ use Rattle.sv_mask.specs.Sets.{Has, Includes}
 use Rattle.sv_model.specs.declared.work.Dep.{Dep}
 use Rattle.sv_model.specs.declared.work.Group.{Group}
 use Rattle.sv_state.specs.Outlines.{AreQuiet, outline}
-use Rattle.sv_state.specs.States.{entries_of}
+use Rattle.sv_state.specs.States.{live_of}
 use Rattle.sv_state.specs.declared.state.CellState.{CellState}
 use Rattle.sv_space.specs.declared.marks.Block.{Block}
 use Rattle.sv_space.specs.declared.pattern.Pattern.{Pattern}
@@ -62,7 +62,7 @@ pub record IsQuietPattern (state : CellState) (patterns : List Pattern) (number 
   pub pattern : Pattern
   pub small : number < most
   pub here : slice_index_or patterns number pattern ≡ pattern
-  pub quiet : AreQuiet (entries_of state) pattern.outlines.items
+  pub quiet : AreQuiet (live_of state) pattern.outlines.items
 
 -- so it is with each number of a set
 abbrev pub AreQuietPatterns : CellState → List Pattern → ℕ → Type 0
