@@ -19,6 +19,7 @@ use Rattle.sv_state.specs.States.{HasGrown, entries_of}
 use Rattle.sv_state.specs.States as state
 use Rattle.sv_state.specs.declared.entry.Entry.{Entry}
 use Rattle.sv_state.specs.declared.state.CellState.{CellState}
+use Rattle.sv_state.proofs.StateLaws.{live_in}
 use Rattle.sv_space.specs.Known.{HasGone, MayFollow}
 use Rattle.sv_space.specs.Meant.{StandsFor}
 use Rattle.sv_space.proofs.Keeping.{gone_none, stands_of}
@@ -40,7 +41,7 @@ module _ (at : Cell) (more : List Group) (step : ℕ) (old mid : CellState)
         placed_step r.0 n r.2 in omega (arith, h, s));
     quiet = λ n e on on_e. (
         let r = in_flat_map placed more n on in
-        let h = late r.0 e r.1 on_e in
+        let h = late r.0 e r.1 (live_in old e on_e) in
         let s = placed_step r.0 n r.2 in
         quiet r.0 r.1 e n.dep on_e (placed_dep r.0 n r.2) story.cell story.deps old.step n refl
         (omega (arith, h, s)) (st.each e on_e));

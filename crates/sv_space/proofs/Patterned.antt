@@ -1,7 +1,8 @@
 -- The numbers of patterns stay those of the groups of a log.
-use Rattle.std.proofs.Common.{ℕ, ◌≡◌, ◌<◌, ◌≤◌, ◌+◌, ◌-◌, ◌*◌, ◌/◌, ◌^◌, List, [], ◌∷◌, ◌++◌, inl, inr}
+use Rattle.std.proofs.Common.{ℕ, ◌≡◌, ◌<◌, ◌≤◌, ◌+◌, ◌-◌, ◌*◌, ◌/◌, ◌%◌, ◌^◌, List, [], ◌∷◌, ◌++◌, inl, inr}
 use Rattle.std.proofs.Common.{arith, refl, sym, ◌∙◌, ap, subst, Contains, length, get_or, take}
 use Rattle.std.proofs.Common.{length-append}
+use Rattle.std.specs.Int.{bit_at, trailing_zeros, w64}
 use Rattle.std.specs.Int.RustNames.{bit_or}
 use Rattle.std.proofs.lemmas.Bool.{cases_lt}
 use Rattle.std.proofs.lemmas.Bool.Decides.{eqb_tells}
@@ -9,8 +10,8 @@ use Rattle.std.proofs.lemmas.List.{take_all, take_more, get_or_append_left, get_
 use Rattle.std.proofs.lemmas.List.{get_or_default, get_or-set_other}
 use Rattle.std.proofs.lemmas.List.Elements.{Contains-append_left, Contains-get_or, Contains-push}
 use Rattle.std.proofs.lemmas.List.Elements.{Contains-push_cases}
-use Rattle.std.proofs.lemmas.Nat.{div-add-mod', div-mul-add}
-use Rattle.std.proofs.lemmas.Nat.Bits.{bit_at-pow_other, bit_at-pow_same, bit_at-zero}
+use Rattle.std.proofs.lemmas.Nat.{div-add-mod', div-mul-add, shr-shr}
+use Rattle.std.proofs.lemmas.Nat.Bits.{bit_at-pow_other, bit_at-pow_same, bit_at-trailing_zeros, bit_at-zero}
 use Rattle.std.proofs.lemmas.Grind.{get_or-set_at}
 use Rattle.std.proofs.Math.ListN.{set}
 use Rattle.std.proofs.Math.Nat.{div-lt_iff_lt-mul}
@@ -18,11 +19,13 @@ use Rattle.sv_mask.specs.Sets.{Has}
 use Rattle.sv_model.specs.declared.work.Dep.{Dep}
 use Rattle.sv_model.specs.declared.work.Group.{Group}
 use Rattle.sv_state.specs.Outlines.{AddsNothing, AreQuiet, outline}
-use Rattle.sv_state.specs.States.{entries_of}
+use Rattle.sv_state.specs.States.{live_of}
 use Rattle.sv_state.specs.declared.state.CellState.{CellState}
 use Rattle.sv_state.proofs.Unions.{Has-or, Has-or_left, Has-or_right}
 use Rattle.sv_space.specs.Patterns.{AreMarked, AreMore, AreQuietFrom, AreQuietPatterns, HasOutlines}
-use Rattle.sv_space.specs.Patterns.{HavePatterns, IsBlockIn, IsPatternOf, IsQuietPattern, KeepMarks, most}
+use Rattle.sv_space.specs.Patterns.{HasAll, HavePatterns, IsPatternOf, IsQuietPart, IsQuietPattern}
+use Rattle.sv_space.specs.Patterns.{KeepMarks, Tells, most}
+use Rattle.sv_space.specs.declared.marks.Block.{Block}
 use Rattle.sv_space.specs.declared.pattern.Pattern.{Pattern}
 
 -- one dependency more whose outline is listed
@@ -127,39 +130,91 @@ of_new old new number deps is longer has = of_one new number deps (omega (arith,
 pub next_block : (place n : ℕ) → place ≤ 64 * n → n ≤ place / 64 → place / 64 ≡ n
 next_block place n room over = omega arith
 
--- one number more in the set at this place
-pub kept_set : (blocks : List ℕ) (at member old new : ℕ) → at < length blocks → old ≡ get_or blocks at old
-    → new ≡ bit_or old (2 ^ member) → KeepMarks blocks (set blocks at new)
-kept_set blocks at member old new lt here is k e n within h = elim (eqb_tells k at) [
+-- a block with a member more in one of its sets
+pub all_with_pattern : (block new : Block) (member : ℕ) → new.patterns ≡ bit_or block.patterns (2 ^ member)
+    → new.lone ≡ block.lone → HasAll block new
+all_with_pattern block new member is same = record {
+  patterns = λ n h. subst (λ (m : ℕ). Has m n) (sym is) (Has-or_left block.patterns (2 ^ member) n h);
+  lone = λ n h. subst (λ (m : ℕ). Has m n) (sym same) h;
+}
+
+pub all_with_place : (block new : Block) (member : ℕ) → new.patterns ≡ block.patterns
+    → new.lone ≡ bit_or block.lone (2 ^ member) → HasAll block new
+all_with_place block new member same is = record {
+  patterns = λ n h. subst (λ (m : ℕ). Has m n) (sym same) h;
+  lone = λ n h. subst (λ (m : ℕ). Has m n) (sym is) (Has-or_left block.lone (2 ^ member) n h);
+}
+
+has_with : (old new member : ℕ) → new ≡ bit_or old (2 ^ member) → Has new member
+has_with old new member is = subst (λ (m : ℕ). Has m member) (sym is)
+    (Has-or_right old (2 ^ member) member (bit_at-pow_same member))
+
+pub told_pattern : (block new : Block) (spot number : ℕ) → number < most
+    → new.patterns ≡ bit_or block.patterns (2 ^ number) → Tells new spot number
+told_pattern block new spot number small is = record {
+  pattern = λ less. has_with block.patterns new.patterns number is;
+  lone = λ over. absurd (omega (arith, small, over));
+}
+
+pub told_place : (block new : Block) (spot number : ℕ) → most ≤ number
+    → new.lone ≡ bit_or block.lone (2 ^ spot) → Tells new spot number
+told_place block new spot number over is = record {
+  pattern = λ less. absurd (omega (arith, less, over));
+  lone = λ more. has_with block.lone new.lone spot is;
+}
+
+pub has_all : (block : Block) → HasAll block block
+has_all block = record { patterns = λ n h. h; lone = λ n h. h }
+
+-- the block at this place has more
+pub kept_set : (blocks : List Block) (at : ℕ) (old new : Block) → at < length blocks
+    → old ≡ get_or blocks at old → HasAll old new → KeepMarks blocks (set blocks at new)
+kept_set blocks at old new lt here more k e within = elim (eqb_tells k at) [
   | inl w ↦ (
       let was : get_or blocks k e ≡ old = ap (λ i. get_or blocks i e) w.1
       ∙ (get_or_default blocks at e old lt ∙ sym here) in
-      let now : get_or (set blocks at new) k e ≡ bit_or old (2 ^ member) =
-      get_or-set_at blocks at k new e w.1 lt ∙ is in
-      subst (λ (m : ℕ). Has m n) (sym now)
-      (Has-or_left old (2 ^ member) n (subst (λ (m : ℕ). Has m n) was h)))
-  | inr w ↦ subst (λ (m : ℕ). Has m n) (sym (get_or-set_other blocks at k new e w.1)) h
+      let now : get_or (set blocks at new) k e ≡ new = get_or-set_at blocks at k new e w.1 lt in
+      subst (λ (b : Block). HasAll b (get_or (set blocks at new) k e)) (sym was)
+      (subst (λ (b : Block). HasAll old b) (sym now) more))
+  | inr w ↦ subst (λ (b : Block). HasAll (get_or blocks k e) b)
+      (sym (get_or-set_other blocks at k new e w.1)) (has_all (get_or blocks k e))
 ]
 
--- the number is in its set then
-pub marked_at : (blocks : List ℕ) (k member d new old : ℕ) → get_or blocks k d ≡ new
-    → new ≡ bit_or old (2 ^ member) → Has (get_or blocks k d) member
-marked_at blocks k member d new old here is = subst (λ (m : ℕ). Has m member) (sym (here ∙ is))
-    (Has-or_right old (2 ^ member) member (bit_at-pow_same member))
+pub kept_pushed : (blocks : List Block) (new : Block) → KeepMarks blocks (blocks ++ new ∷ [])
+kept_pushed blocks new k e within = subst (λ (b : Block). HasAll (get_or blocks k e) b)
+    (sym (get_or_append_left blocks (new ∷ []) e k within)) (has_all (get_or blocks k e))
 
-pub marked_set : (blocks : List ℕ) (at member d old new : ℕ) → at < length blocks
-    → new ≡ bit_or old (2 ^ member) → Has (get_or (set blocks at new) at d) member
-marked_set blocks at member d old new lt is = marked_at (set blocks at new) at member d new old
-    (get_or-set_at blocks at at new d refl lt) is
+pub told_set : (blocks : List Block) (at spot number : ℕ) (e new : Block) → at < length blocks
+    → Tells new spot number → Tells (get_or (set blocks at new) at e) spot number
+told_set blocks at spot number e new lt told = subst (λ (b : Block). Tells b spot number)
+    (sym (get_or-set_at blocks at at new e refl lt)) told
 
-pub marked_pushed : (blocks : List ℕ) (at member d old new : ℕ) → at ≡ length blocks
-    → new ≡ bit_or old (2 ^ member) → Has (get_or (blocks ++ new ∷ []) at d) member
-marked_pushed blocks at member d old new end is = marked_at (blocks ++ new ∷ []) at member d new old
-    (at_end blocks new at d end) is
+pub told_pushed : (blocks : List Block) (at spot number : ℕ) (e new : Block) → at ≡ length blocks
+    → Tells new spot number → Tells (get_or (blocks ++ new ∷ []) at e) spot number
+told_pushed blocks at spot number e new end told = subst (λ (b : Block). Tells b spot number)
+    (sym (at_end blocks new at e end)) told
+
+-- the members of a set that come before the lowest of those from one on
+pub clear_below : (known from rest count k : ℕ) → from < 64 → rest ≡ known / 2 ^ from → rest < 2 ^ 64
+    → count ≤ trailing_zeros w64 rest → from ≤ k → k < from + count → ¬ Has known k
+clear_below known from rest count k small is below few le lt has =
+    let at : bit_at rest (k - from) ≡ bit_at known k = ap (λ n. bit_at n (k - from)) is
+    ∙ (ap (λ n. n % 2) (shr-shr known from (k - from))
+    ∙ ap (λ i. bit_at known i) (let e : from + (k - from) ≡ k = omega (arith, le) in e)) in
+    elim (cases_lt 0 rest) [
+      | inl some ↦ (
+          let z = (bit_at-trailing_zeros w64 rest some below).2 (k - from) (omega (arith, few, le, lt)) in
+          absurd (omega (arith, z, at, has)))
+      | inr none ↦ (
+          let nothing : rest ≡ 0 = omega (arith, none) in
+          let z : bit_at rest (k - from) ≡ 0 = ap (λ n. bit_at n (k - from)) nothing
+          ∙ bit_at-zero (k - from) in
+          absurd (omega (arith, z, at, has)))
+    ]
 
 -- more patterns
-pub patterns_more : (groups : List Group) (old new : List Pattern) (numbers blocks : List ℕ)
-    → AreMore old new → HavePatterns groups old numbers blocks → HavePatterns groups new numbers blocks
+pub patterns_more : (groups : List Group) (old new : List Pattern) (numbers : List ℕ)
+    (blocks : List Block) → AreMore old new → HavePatterns groups old numbers blocks → HavePatterns groups new numbers blocks
 patterns_more groups old new numbers blocks more have = record {
   short = have.short;
   each = λ j d g lt. (
@@ -173,8 +228,8 @@ patterns_more groups old new numbers blocks more have = record {
 }
 
 -- one group more, without a number
-pub patterns_group : (groups : List Group) (h : Group) (patterns : List Pattern) (numbers blocks : List ℕ)
-    → HavePatterns groups patterns numbers blocks → HavePatterns (groups ++ h ∷ []) patterns numbers blocks
+pub patterns_group : (groups : List Group) (h : Group) (patterns : List Pattern) (numbers : List ℕ)
+    (blocks : List Block) → HavePatterns groups patterns numbers blocks → HavePatterns (groups ++ h ∷ []) patterns numbers blocks
 patterns_group groups h patterns numbers blocks have = record {
   short = (let s = have.short in let l = length-append groups (h ∷ []) in omega (arith, s, l));
   each = λ j d g lt. subst (λ (f : Group). IsPatternOf patterns (get_or numbers j d) f.deps)
@@ -184,23 +239,34 @@ patterns_group groups h patterns numbers blocks have = record {
 }
 
 -- more patterns, and one group more
-pub patterns_grown : (groups more : List Group) (h : Group) (old new : List Pattern) (numbers blocks : List ℕ)
+pub patterns_grown : (groups more : List Group) (h : Group) (old new : List Pattern) (numbers : List ℕ)
+    (blocks : List Block)
     → more ≡ groups ++ h ∷ [] → AreMore old new → HavePatterns groups old numbers blocks
     → HavePatterns more new numbers blocks
 patterns_grown groups more h old new numbers blocks is known have =
     subst (λ (gs : List Group). HavePatterns gs new numbers blocks) (sym is)
     (patterns_group groups h new numbers blocks (patterns_more groups old new numbers blocks known have))
 
+-- a block with more
+tells_more : (old new : Block) (spot number : ℕ) → HasAll old new → Tells old spot number
+    → Tells new spot number
+tells_more old new spot number all told = record {
+  pattern = λ less. all.patterns number (told.pattern less);
+  lone = λ over. all.lone spot (told.lone over);
+}
+
 -- blocks with more marks
-pub marked_more : (numbers old new : List ℕ) → KeepMarks old new → length old ≤ length new
+pub marked_more : (numbers : List ℕ) (old new : List Block) → KeepMarks old new → length old ≤ length new
     → AreMarked numbers old → AreMarked numbers new
 marked_more numbers old new kept long are = record {
   room = (let r = are.room in omega (arith, r, long));
-  has = λ j d e lt. kept (j / 64) e (get_or numbers j d)
-      (in_block j (length old) (let r = are.room in omega (arith, r, lt))) (are.has j d e lt);
+  told = λ j d e lt. tells_more (get_or old (j / 64) e) (get_or new (j / 64) e) (j % 64) (get_or numbers j d)
+      (kept (j / 64) e (in_block j (length old) (let r = are.room in omega (arith, r, lt))))
+      (are.told j d e lt);
 }
 
-pub patterns_marked : (groups : List Group) (patterns : List Pattern) (numbers old new : List ℕ)
+pub patterns_marked : (groups : List Group) (patterns : List Pattern) (numbers : List ℕ)
+    (old new : List Block)
     → KeepMarks old new → length old ≤ length new → HavePatterns groups patterns numbers old
     → HavePatterns groups patterns numbers new
 patterns_marked groups patterns numbers old new kept long have =
@@ -211,9 +277,10 @@ patterns_marked groups patterns numbers old new kept long have =
     }
 
 -- one number more, of the last group
-pub patterns_number : (groups : List Group) (h : Group) (patterns : List Pattern) (numbers blocks : List ℕ)
-    (n : ℕ) → length numbers ≡ length groups → IsPatternOf patterns n h.deps → length numbers
-    < 64 * length blocks → ((e : ℕ) → Has (get_or blocks (length numbers / 64) e) n)
+pub patterns_number : (groups : List Group) (h : Group) (patterns : List Pattern) (numbers : List ℕ)
+    (blocks : List Block) (n : ℕ) → length numbers ≡ length groups → IsPatternOf patterns n h.deps → length numbers
+    < 64 * length blocks
+    → ((e : Block) → Tells (get_or blocks (length numbers / 64) e) (length numbers % 64) n)
     → HavePatterns (groups ++ h ∷ []) patterns numbers blocks
     → HavePatterns (groups ++ h ∷ []) patterns (numbers ++ n ∷ []) blocks
 patterns_number groups h patterns numbers blocks n even is room marked have = record {
@@ -231,23 +298,24 @@ patterns_number groups h patterns numbers blocks n even is room marked have = re
   ];
   marked = record {
     room = (let m = length-append numbers (n ∷ []) in omega (arith, m, room));
-    has = λ j d e lt. elim (cases_lt j (length numbers)) [
-      | inl less ↦ subst (λ (k : ℕ). Has (get_or blocks (j / 64) e) k)
-          (sym (get_or_append_left numbers (n ∷ []) d j less)) (have.marked.has j d e less)
+    told = λ j d e lt. elim (cases_lt j (length numbers)) [
+      | inl less ↦ subst (λ (k : ℕ). Tells (get_or blocks (j / 64) e) (j % 64) k)
+          (sym (get_or_append_left numbers (n ∷ []) d j less)) (have.marked.told j d e less)
       | inr over ↦ (
           let m = length-append numbers (n ∷ []) in
           let last : j ≡ length numbers = omega (arith, over, lt, m) in
-          subst (λ (k : ℕ). Has (get_or blocks (j / 64) e) k) (sym (at_end numbers n j d last))
-          (subst (λ (i : ℕ). Has (get_or blocks (i / 64) e) n) (sym last) (marked e)))
+          subst (λ (k : ℕ). Tells (get_or blocks (j / 64) e) (j % 64) k) (sym (at_end numbers n j d last))
+          (subst (λ (i : ℕ). Tells (get_or blocks (i / 64) e) (i % 64) n) (sym last) (marked e)))
     ];
   };
 }
 
 -- the same of lists that are said to be these
 pub patterns_numbered : (groups all : List Group) (h : Group) (patterns : List Pattern)
-    (numbers more blocks : List ℕ) (n : ℕ) → all ≡ groups ++ h ∷ [] → more ≡ numbers ++ n ∷ []
+    (numbers more : List ℕ) (blocks : List Block) (n : ℕ) → all ≡ groups ++ h ∷ [] → more ≡ numbers ++ n ∷ []
     → length numbers + 1 ≡ length all → IsPatternOf patterns n h.deps → length numbers < 64 * length blocks
-    → ((e : ℕ) → Has (get_or blocks (length numbers / 64) e) n) → HavePatterns all patterns numbers blocks
+    → ((e : Block) → Tells (get_or blocks (length numbers / 64) e) (length numbers % 64) n)
+    → HavePatterns all patterns numbers blocks
     → HavePatterns all patterns more blocks
 patterns_numbered groups all h patterns numbers more blocks n is_all is_more even is room marked have =
     let long : length all ≡ length groups + 1 = ap length is_all ∙ length-append groups (h ∷ []) in
@@ -258,7 +326,7 @@ patterns_numbered groups all h patterns numbers more blocks n is_all is_more eve
 
 -- a group of a pattern of which nothing is added
 pub quiet_group : (state : CellState) (groups : List Group) (patterns : List Pattern)
-    (numbers blocks : List ℕ) (j d : ℕ) (g : Group) → HavePatterns groups patterns numbers blocks → j
+    (numbers : List ℕ) (blocks : List Block) (j d : ℕ) (g : Group) → HavePatterns groups patterns numbers blocks → j
     < length numbers → IsQuietPattern state patterns (get_or numbers j d)
     → AddsNothing state (get_or groups j g)
 quiet_group state groups patterns numbers blocks j d g have lt quiet e f on_e on_f =
@@ -267,7 +335,7 @@ quiet_group state groups patterns numbers blocks j d g have lt quiet e f on_e on
 
 -- the groups that are passed over
 pub quiet_groups : (state : CellState) (groups : List Group) (patterns : List Pattern)
-    (numbers blocks : List ℕ) (from end : ℕ) → HavePatterns groups patterns numbers blocks
+    (numbers : List ℕ) (blocks : List Block) (from end : ℕ) → HavePatterns groups patterns numbers blocks
     → (from < end → end ≤ length numbers) → AreQuietFrom from end state patterns numbers
     → (j : ℕ) (g : Group) → from ≤ j → j < end → AddsNothing state (get_or groups j g)
 quiet_groups state groups patterns numbers blocks from end have listed are j g le lt =
@@ -289,18 +357,35 @@ quiet_with state patterns set n quiet are m has = elim (Has-or set (2 ^ n) m has
   ]
 ]
 
--- the numbers of a block whose set is quiet
-pub quiet_block : (state : CellState) (patterns : List Pattern) (numbers blocks : List ℕ) (place set : ℕ)
-    → AreMarked numbers blocks → AreQuietPatterns state patterns set → IsBlockIn place blocks set
-    → AreQuietFrom place (place + 64) state patterns numbers
-quiet_block state patterns numbers blocks place set marked are block j d le lt within =
+-- a part of a block
+in_part : (place j b : ℕ) → b ≡ place / 64 → place ≤ j → place % 64 + (j - place) < 64 → (j / 64 ≡ b)
+    × (j % 64 ≡ place % 64 + (j - place))
+in_part place j b is le lt =
     let whole = div-add-mod' place 64 in
-    let begins = block.begins in
-    let b = place / 64 in
-    let at : j ≡ b * 64 + (j - place) = omega (arith, whole, begins, le) in
-    let same : j / 64 ≡ b = ap (λ i. i / 64) at ∙ div-mul-add b 64 (j - place) (omega (arith, le, lt)) in
-    are (get_or numbers j d) (block.includes 0 (get_or numbers j d)
-    (subst (λ i. Has (get_or blocks i 0) (get_or numbers j d)) same (marked.has j d 0 within)))
+    let r = place % 64 + (j - place) in
+    let at : j ≡ b * 64 + r = omega (arith, whole, is, le) in
+    let same : j / 64 ≡ b = ap (λ i. i / 64) at ∙ div-mul-add b 64 r (omega (arith, lt)) in
+    let rest = div-add-mod' j 64 in
+    (same, omega (arith, rest, same, at))
+
+-- the numbers of a part of a block whose patterns are quiet
+pub quiet_part : (state : CellState) (patterns : List Pattern) (numbers : List ℕ) (blocks : List Block)
+    (block : Block) (place count known : ℕ) → AreMarked numbers blocks
+    → AreQuietPatterns state patterns known → block ≡ get_or blocks (place / 64) block
+    → place % 64 + count ≤ 64 → IsQuietPart (place % 64) count block known
+    → AreQuietFrom place (place + count) state patterns numbers
+quiet_part state patterns numbers blocks block place count known marked are is room part j d le lt within =
+    let n : ℕ = get_or numbers j d in
+    let here = in_part place j (place / 64) refl le (omega (arith, room, le, lt)) in
+    let told : Tells block (place % 64 + (j - place)) n =
+    subst (λ (b : Block). Tells b (place % 64 + (j - place)) n) (sym is)
+    (subst (λ i. Tells (get_or blocks i block) (place % 64 + (j - place)) n) here.0
+    (subst (λ i. Tells (get_or blocks (j / 64) block) i n) here.1 (marked.told j d block within))) in
+    elim (cases_lt n most) [
+      | inl less ↦ are n (part.includes n (told.pattern less))
+      | inr over ↦ absurd (part.clear (place % 64 + (j - place)) (omega arith) (omega (arith, le, lt))
+          (told.lone over))
+    ]
 
 pub quiet_one : (state : CellState) (patterns : List Pattern) (numbers : List ℕ) (place d : ℕ) → place
     < length numbers → IsQuietPattern state patterns (get_or numbers place d)
@@ -313,12 +398,12 @@ quiet_one state patterns numbers place d within quiet j e le lt lt_j =
 -- a pattern that is asked for
 pub quiet_asked : (state : CellState) (patterns : List Pattern) (n : ℕ) (p : Pattern) (outlines : List Dep)
     → n < most → p ≡ get_or patterns n p → outlines ≡ p.outlines.items
-    → AreQuiet (entries_of state) outlines → IsQuietPattern state patterns n
+    → AreQuiet (live_of state) outlines → IsQuietPattern state patterns n
 quiet_asked state patterns n p outlines small at is quiet = record {
   pattern = p;
   small = small;
   here = sym at;
-  quiet = subst (λ (ds : List Dep). AreQuiet (entries_of state) ds) is quiet;
+  quiet = subst (λ (ds : List Dep). AreQuiet (live_of state) ds) is quiet;
 }
 
 -- some places, and then others

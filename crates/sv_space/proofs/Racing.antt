@@ -1,13 +1,13 @@
 -- Whether some access of a step races.
 use Rattle.std.proofs.Common.{ℕ, ◌≡◌, ◌<◌, ◌+◌, IsTrue, List, ◌⊎◌, inl, inr, arith, sym, ◌∙◌, ap, subst}
-use Rattle.std.proofs.Common.{Contains, length, get_or, Option, Some, None, IfSome, Bor}
+use Rattle.std.proofs.Common.{[], ◌∷◌, refl, Contains, length, get_or, Option, Some, None, IfSome, Bor}
 use Rattle.std.specs.Option.{option_copied}
 use Rattle.std.proofs.lemmas.List.{get_or_default}
 use Rattle.sv_model.specs.Cells.{covers}
 use Rattle.sv_model.specs.Dependencies.{Placed, IsOwn}
 use Rattle.sv_model.specs.Order.{Story, IsBelow, IsClear, IsPartner, extended}
 use Rattle.sv_model.specs.Reports.{on_cell}
-use Rattle.sv_model.proofs.Lists.{in_filter}
+use Rattle.sv_model.proofs.Lists.{in_cons, in_filter, in_first}
 use Rattle.sv_model.specs.declared.work.Access.{Access}
 use Rattle.sv_model.specs.declared.work.Cell.{Cell}
 use Rattle.sv_model.specs.declared.work.Group.{Group}
@@ -82,3 +82,10 @@ pub own_on_cell : (groups : List Group) (accesses : List Access) (cell : Cell)
 own_on_cell groups accesses cell own xs is x g on found =
     own x g (in_filter (λ (a : Access). covers a.area cell) accesses x
     (subst (λ (ys : List Access). Contains ys x) is on)).0 found
+
+-- where each is on the cell, those on it are all
+pub all_on_cell : (accesses : List Access) (cell : Cell)
+    → ((x : Access) → Contains accesses x → IsTrue (covers x.area cell)) → on_cell cell accesses ≡ accesses
+all_on_cell [] cell all = refl
+all_on_cell (x ∷ xs) cell all = rw (all x (in_first x xs))
+    (ap (λ (ys : List Access). x ∷ ys) (all_on_cell xs cell (λ y on. all y (in_cons x xs y on))))

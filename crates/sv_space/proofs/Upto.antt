@@ -1,11 +1,11 @@
 -- How many groups the states of cells were given.
-use Rattle.std.proofs.Common.{ℕ, suc, ◌≡◌, ◌<◌, ◌≤◌, ◌+◌, ◌*◌, ◌^◌, ◌-◌, ◌/◌, ◌%◌, ◌==◌, ◌&&◌, nat_le}
-use Rattle.std.proofs.Common.{nat_lt, true, false, IsTrue, List, Contains, length, get_or, arith, refl, sym}
+use Rattle.std.proofs.Common.{ℕ, suc, ◌≡◌, ◌<◌, ◌≤◌, ◌+◌, ◌*◌, ◌^◌, ◌/◌, ◌%◌, ◌==◌, ◌&&◌, nat_le}
+use Rattle.std.proofs.Common.{nat_lt, true, false, List, length, get_or, arith, sym}
 use Rattle.std.proofs.Common.{◌∙◌, ap, subst}
-use Rattle.std.proofs.lemmas.Bool.{eq-eqb, eqb-true, le-leb, leb-true}
+use Rattle.std.proofs.lemmas.Bool.{eq-eqb, le-leb, leb-true}
 use Rattle.std.proofs.lemmas.List.{get_or_default}
 use Rattle.std.proofs.lemmas.Nat.{div-add-mod'}
-use Rattle.sv_model.specs.Cells.{IsOnly, area_resource, covers}
+use Rattle.sv_model.specs.Cells.{IsOnly, area_resource}
 use Rattle.sv_model.specs.declared.work.Area.{Area}
 use Rattle.sv_model.specs.declared.work.Area.TheVariants.{Bytes, Image}
 use Rattle.sv_model.specs.declared.work.Cell.{Cell}
@@ -15,7 +15,7 @@ use Rattle.sv_range.specs.Spans.{InSpan}
 use Rattle.sv_rangemap.specs.Lines.{Cover, IsValueAt}
 use Rattle.sv_rangemap.specs.declared.part.Part.{Part}
 use Rattle.sv_rangemap.proofs.Pieces.{cell_piece, same_piece, some_part}
-use Rattle.sv_space.specs.AllLines.{AreAllCaught, AreAllWithin, LiesAt, LiesIn}
+use Rattle.sv_space.specs.AllLines.{AreAllCaught, AreAllWithin, LiesAt}
 use Rattle.sv_space.specs.Counts.{capped}
 use Rattle.sv_space.specs.Cut.{Covers}
 use Rattle.sv_space.specs.Lines.{IsShaped, LiesOn, first_on}

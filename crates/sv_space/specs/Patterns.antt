@@ -1,11 +1,12 @@
 -- Patterns of groups, and of which pattern each group of a log is.
-use Rattle.std.specs.Prelude.{ℕ, ◌≡◌, ◌<◌, ◌≤◌, ◌*◌, ◌/◌, ◌%◌, List, length, slice_index_or, Contains}
+use Rattle.std.specs.Prelude.{ℕ, ◌≡◌, ◌<◌, ◌≤◌, ◌+◌, ◌*◌, ◌/◌, ◌%◌, List, length, slice_index_or, Contains}
 use Rattle.sv_mask.specs.Sets.{Has, Includes}
 use Rattle.sv_model.specs.declared.work.Dep.{Dep}
 use Rattle.sv_model.specs.declared.work.Group.{Group}
 use Rattle.sv_state.specs.Outlines.{AreQuiet, outline}
-use Rattle.sv_state.specs.States.{entries_of}
+use Rattle.sv_state.specs.States.{live_of}
 use Rattle.sv_state.specs.declared.state.CellState.{CellState}
+use Rattle.sv_space.specs.declared.marks.Block.{Block}
 use Rattle.sv_space.specs.declared.pattern.Pattern.{Pattern}
 
 -- so many patterns have numbers at most
@@ -21,24 +22,35 @@ pub record IsPatternOf (patterns : List Pattern) (number : ℕ) (deps : List Dep
   pub listed : number < most → number < length patterns
   pub has : (p : Pattern) → number < most → HasOutlines (slice_index_or patterns number p).outlines.items deps
 
--- the set of each block of 64 numbers has these
-pub record AreMarked (numbers blocks : List ℕ) : Type 0 where
+-- a block has the number of the place with this number in the block, if it is that of a pattern, and else the
+-- place
+pub record Tells (block : Block) (spot number : ℕ) : Type 0 where
+  pub pattern : number < most → Has block.patterns number
+  pub lone : most ≤ number → Has block.lone spot
+
+-- so it is with each place
+pub record AreMarked (numbers : List ℕ) (blocks : List Block) : Type 0 where
   pub room : length numbers ≤ 64 * length blocks
-  pub has : (j d e : ℕ) → j < length numbers → Has (slice_index_or blocks (j / 64) e)
+  pub told : (j d : ℕ) (e : Block) → j < length numbers → Tells (slice_index_or blocks (j / 64) e) (j % 64)
       (slice_index_or numbers j d)
 
 -- the first groups are of the patterns with these numbers
-pub record HavePatterns (groups : List Group) (patterns : List Pattern)
-    (numbers blocks : List ℕ) : Type 0 where
+pub record HavePatterns (groups : List Group) (patterns : List Pattern) (numbers : List ℕ)
+    (blocks : List Block) : Type 0 where
   pub short : length numbers ≤ length groups
   pub each : (j d : ℕ) (g : Group) → j < length numbers
       → IsPatternOf patterns (slice_index_or numbers j d) (slice_index_or groups j g).deps
   pub marked : AreMarked numbers blocks
 
--- no set of the list loses a number
-abbrev pub KeepMarks : List ℕ → List ℕ → Type 0
-KeepMarks old new = (k e n : ℕ) → k < length old → Has (slice_index_or old k e) n
-    → Has (slice_index_or new k e) n
+-- the new block has all that the old one has
+pub record HasAll (old new : Block) : Type 0 where
+  pub patterns : (n : ℕ) → Has old.patterns n → Has new.patterns n
+  pub lone : (n : ℕ) → Has old.lone n → Has new.lone n
+
+-- no block of the list loses a number or a place
+abbrev pub KeepMarks : List Block → List Block → Type 0
+KeepMarks old new = (k : ℕ) (e : Block) → k < length old
+    → HasAll (slice_index_or old k e) (slice_index_or new k e)
 
 -- the first patterns are as they were
 pub record AreMore (old new : List Pattern) : Type 0 where
@@ -50,16 +62,16 @@ pub record IsQuietPattern (state : CellState) (patterns : List Pattern) (number 
   pub pattern : Pattern
   pub small : number < most
   pub here : slice_index_or patterns number pattern ≡ pattern
-  pub quiet : AreQuiet (entries_of state) pattern.outlines.items
+  pub quiet : AreQuiet (live_of state) pattern.outlines.items
 
 -- so it is with each number of a set
 abbrev pub AreQuietPatterns : CellState → List Pattern → ℕ → Type 0
 AreQuietPatterns state patterns set = (n : ℕ) → Has set n → IsQuietPattern state patterns n
 
--- the place begins a block, whose set is part of this one
-pub record IsBlockIn (place : ℕ) (blocks : List ℕ) (set : ℕ) : Type 0 where
-  pub begins : place % 64 ≡ 0
-  pub includes : (e : ℕ) → Includes set (slice_index_or blocks (place / 64) e)
+-- so many places of a block, from this one on, have patterns, and the patterns of the block are in the set
+pub record IsQuietPart (spot count : ℕ) (block : Block) (set : ℕ) : Type 0 where
+  pub includes : Includes set block.patterns
+  pub clear : (k : ℕ) → spot ≤ k → k < spot + count → ¬ Has block.lone k
 
 -- from one place up to another, as far as there are numbers, they are those of patterns of which nothing is
 -- added to the state

@@ -7,15 +7,17 @@ ghost use Rattle.sv_range.specs.Lines.{InSome};
 ghost use Rattle.sv_rangemap.specs.Lines.{ArePartsOf, ArePlaces, BeginsAt, IsBoundary, KeepBegins};
 ghost use Rattle.sv_space.specs.Lines.{IsShaped, IsShaped-prop, IsInMip, LiesOn, area_on, cell_on, first_on};
 ghost use Rattle.sv_space.specs.Runs.{runs_of};
+ghost use Rattle.sv_space.specs.Spans.{spans_in};
 
 use crate::cutting::cut;
 use crate::known::Known;
 use crate::log::Log;
 use crate::places::places_of;
 use crate::shape::Shape;
+use crate::spans::{Spans, box_runs};
 use std::alloc::{AllocError, Global};
 use sv_model::work::{Area, Cell};
-use sv_range::{Cells, List, Span, runs};
+use sv_range::{Cells, List, Span};
 use sv_rangemap::RangeMap;
 
 /// What is known of the cells of one resource.
@@ -90,21 +92,24 @@ pub fn first_of(shape: Shape, area: &Area) -> u64
 }
 
 /// The spans of the line that an area of the resource has, in order.
-pub fn spans_of(alloc: Global, shape: Shape, area: Area) -> Result<List<Span>, AllocError>
+pub fn spans_of(alloc: Global, shape: Shape, area: Area) -> Result<Spans, AllocError>
     requires { (res size : ℕ) × IsShaped shape size × LiesOn res shape size area }
-    ensures ascending { IfOk result (AllPairs EndsBefore) }
-    ensures in_mip { IfOk result (All (IsInMip shape)) }
+    ensures ascending { IfOk result (λ spans. AllPairs EndsBefore (spans_in spans)) }
+    ensures in_mip { IfOk result (λ spans. All (IsInMip shape) (spans_in spans)) }
     ensures inside { (res size : ℕ) → IsShaped shape size → LiesOn res shape size area
-        → IfOk result (All (λ (span : Span). (span.start < span.end) × (span.end ≤ size))) }
+        → IfOk result (λ spans. All (λ (span : Span). (span.start < span.end) × (span.end ≤ size))
+        (spans_in spans)) }
     ensures cells { (res size : ℕ) → IsShaped shape size → LiesOn res shape size area
         → IfOk result (λ spans. (number : ℕ) → number < size
-        → InSome spans number ↔ IsTrue (cells.covers area (cell_on res shape number))) }
-    ensures few { IfOk result (λ spans. length spans ≤ runs_of area) }
+        → InSome (spans_in spans) number ↔ IsTrue (cells.covers area (cell_on res shape number))) }
+    ensures few { IfOk result (λ spans. length (spans_in spans) ≤ runs_of area) }
 {
     match (area, shape) {
-        (Area::Bytes { span, .. }, _) => Ok(List::from_vec(vec![in alloc; span]?)),
-        (Area::Image { cells, .. }, Shape::Mips { layers, .. }) => runs(alloc, cells, layers),
-        (Area::Image { .. }, Shape::Bytes) => Ok(List::new(alloc)),
+        (Area::Bytes { span, .. }, _) => Ok(Spans::One(span)),
+        (Area::Image { cells, .. }, Shape::Mips { layers, .. }) => {
+            box_runs(alloc, cells, layers)
+        }
+        (Area::Image { .. }, Shape::Bytes) => Ok(Spans::Many(List::new(alloc))),
     }
 }
 

@@ -4,7 +4,7 @@ ghost use Rattle.std.specs.Prelude.{slice_index_or};
 ghost use Rattle.sv_model.specs.declared.work.Group.{Group};
 ghost use Rattle.sv_state.specs.Outlines.{AddsNothing};
 
-use crate::marks::mark;
+use crate::marks::{Block, mark};
 use crate::passing::next_in;
 use crate::pattern::{Pattern, number_of};
 use std::alloc::{AllocError, Global};
@@ -20,7 +20,7 @@ pub struct Log {
     groups: Vec<Group>,
     patterns: Vec<Pattern>,
     numbers: Vec<u8>,
-    blocks: Vec<u64>,
+    blocks: Vec<Block>,
 }
 
 impl Model for Log {

@@ -1,38 +1,77 @@
 //! Which of the next groups add nothing to a state, by the numbers of their patterns.
-ghost use Rattle.std.specs.Prelude.{◌≡◌, ◌<◌, ◌≤◌, ◌*◌, ℕ, IfSome, true, false, length};
-ghost use Rattle.sv_space.specs.Patterns.{AreMarked, AreQuietFrom, AreQuietPatterns, IsBlockIn};
+ghost use Rattle.std.specs.Prelude.{◌≡◌, ◌+◌, ◌<◌, ◌≤◌, ℕ, IfSome, true, false, length};
+ghost use Rattle.sv_space.specs.Patterns.{AreMarked, AreQuietFrom, AreQuietPatterns, IsQuietPart};
 ghost use Rattle.sv_space.specs.Patterns.{IsQuietPattern};
 
-use crate::marks::{BLOCK, has, includes, with};
+use crate::marks::{BLOCK, Block, clear_from, has, includes, with};
 use crate::pattern::{MOST, Pattern};
 use sv_state::CellState;
 
-// Whether groups of the pattern with this number may add to the state. Those in the set are known not to.
-fn may_add(state: &CellState, patterns: &Vec<Pattern>, number: u8, quiet: &mut u64) -> bool
-    requires { AreQuietPatterns state.now patterns.now.items quiet.old }
-    ensures known { AreQuietPatterns state.now patterns.now.items quiet.new }
+/// Which patterns were asked for: those of which no group adds to the state, and those of which one may.
+#[derive(Clone, Copy)]
+struct Asked {
+    quiet: u64,
+    loud: u64,
+}
+
+// Whether groups of the pattern with this number may add to the state. Each pattern is asked for once.
+fn may_add(state: &CellState, patterns: &Vec<Pattern>, number: u8, asked: &mut Asked) -> bool
+    requires { AreQuietPatterns state.now patterns.now.items asked.old.quiet }
+    ensures known { AreQuietPatterns state.now patterns.now.items asked.new.quiet }
     ensures quiet { result ≡ false → IsQuietPattern state.now patterns.now.items number }
 {
     let at = number as usize;
     if at >= MOST || at >= patterns.len() {
         return true;
     }
-    if has(*quiet, number) {
+    if has(asked.quiet, number) {
         return false;
     }
-    if state.adds(patterns[at].outlines.as_slice()) {
+    if has(asked.loud, number) {
         return true;
     }
-    *quiet = with(*quiet, number);
+    if state.adds(patterns[at].outlines.as_slice()) {
+        asked.loud = with(asked.loud, number);
+        return true;
+    }
+    asked.quiet = with(asked.quiet, number);
     false
 }
 
-// Whether the place begins a block of which all are known to add nothing.
-fn is_quiet_block(blocks: &Vec<u64>, place: usize, quiet: u64) -> bool
-    requires { place < 64 * length blocks.now.items }
-    ensures { result ≡ true → IsBlockIn place blocks.now.items quiet }
+// Asks for the pattern with this number, if it is one of the block.
+fn ask_one(state: &CellState, patterns: &Vec<Pattern>, block: Block, number: u8, asked: &mut Asked)
+    requires number { number < 64 }
+    requires known { AreQuietPatterns state.now patterns.now.items asked.old.quiet }
+    ensures { AreQuietPatterns state.now patterns.now.items asked.new.quiet }
 {
-    place % BLOCK == 0 && includes(quiet, blocks[place / BLOCK])
+    if has(block.patterns, number) {
+        let _may = may_add(state, patterns, number, asked);
+    }
+}
+
+// Asks for each pattern of the block.
+fn ask(state: &CellState, patterns: &Vec<Pattern>, block: Block, asked: &mut Asked)
+    requires { AreQuietPatterns state.now patterns.now.items asked.old.quiet }
+    ensures { AreQuietPatterns state.now patterns.now.items asked.new.quiet }
+{
+    if includes(asked.quiet | asked.loud, block.patterns) {
+        return;
+    }
+    for number in 0..patterns.len().min(MOST) {
+        ask_one(state, patterns, block, number as u8, asked);
+    }
+}
+
+// How many places of the block, from that one on, are known to add nothing.
+fn quiet_count(block: Block, spot: usize, quiet: u64) -> usize
+    requires { spot < 64 }
+    ensures within { spot + result ≤ 64 }
+    ensures quiet { 0 < result → IsQuietPart spot result block quiet }
+{
+    if !includes(quiet, block.patterns) {
+        return 0;
+    }
+    clear_from(block.lone, spot)
 }
 
 // The place behind some, from that one on, that add nothing to the state; None where the first one may.
@@ -40,22 +79,25 @@ fn pass(
     state: &CellState,
     patterns: &Vec<Pattern>,
     numbers: &Vec<u8>,
-    blocks: &Vec<u64>,
+    blocks: &Vec<Block>,
     place: usize,
-    quiet: &mut u64,
+    asked: &mut Asked,
 ) -> Option<usize>
-    requires known { AreQuietPatterns state.now patterns.now.items quiet.old }
+    requires known { AreQuietPatterns state.now patterns.now.items asked.old.quiet }
     requires marked { AreMarked numbers.now.items blocks.now.items }
     requires listed { place < length numbers.now.items }
-    ensures known { AreQuietPatterns state.now patterns.now.items quiet.new }
+    ensures known { AreQuietPatterns state.now patterns.now.items asked.new.quiet }
     ensures further { IfSome result (λ next. place < next) }
     ensures quiet { IfSome result (λ next. AreQuietFrom place next state.now patterns.now.items
         numbers.now.items) }
 {
-    if is_quiet_block(blocks, place, *quiet) {
-        return Some(place + BLOCK);
+    let block = blocks[place / BLOCK];
+    ask(state, patterns, block, asked);
+    let count = quiet_count(block, place % BLOCK, asked.quiet);
+    if count > 0 {
+        return Some(place + count);
     }
-    if may_add(state, patterns, numbers[place], quiet) {
+    if may_add(state, patterns, numbers[place], asked) {
         return None;
     }
     Some(place + 1)
@@ -67,7 +109,7 @@ pub fn next_in(
     state: &CellState,
     patterns: &Vec<Pattern>,
     numbers: &Vec<u8>,
-    blocks: &Vec<u64>,
+    blocks: &Vec<Block>,
     from: usize,
 ) -> usize
     requires { AreMarked numbers.now.items blocks.now.items }
@@ -75,10 +117,10 @@ pub fn next_in(
     ensures listed { from < result → result ≤ length numbers.now.items }
     ensures quiet { AreQuietFrom from result state.now patterns.now.items numbers.now.items }
 {
-    let mut quiet = 0u64;
+    let mut asked = Asked { quiet: 0, loud: 0 };
     let mut place = from;
     while place < numbers.len() {
-        match pass(state, patterns, numbers, blocks, place, &mut quiet) {
+        match pass(state, patterns, numbers, blocks, place, &mut asked) {
             None => return place,
             Some(next) => place = next,
         }

@@ -8,9 +8,13 @@ ghost use Rattle.sv_space.specs.Lines.{LiesOn};
 ghost use Rattle.sv_space.specs.Places.{AreListed};
 
 use crate::line::{Line, spans_of};
+use smallvec::SmallVec;
 use std::alloc::{AllocError, Global};
 use sv_model::work::Area;
 use sv_range::Span;
+
+/// Places of pieces. Where they are few they take no memory.
+pub type Places = SmallVec<usize, 4>;
 
 fn greater(a: usize, b: usize) -> usize
     ensures first { a ≤ result }
@@ -21,7 +25,7 @@ fn greater(a: usize, b: usize) -> usize
 }
 
 // Adds the numbers from one up to another.
-fn push_numbers(list: &mut Vec<usize>, from: usize, end: usize) -> Result<(), AllocError>
+fn push_numbers(list: &mut Places, from: usize, end: usize) -> Result<(), AllocError>
     ensures { OnOk result (list.new.items ≡ list.old.items ++ range_with_len from (end - from)) }
 {
     for number in from..end {
@@ -33,7 +37,7 @@ fn push_numbers(list: &mut Vec<usize>, from: usize, end: usize) -> Result<(), Al
 // Adds the places, from `next` on, of the pieces with cells of a span, and tells from where on there may be
 // others.
 fn add_places(
-    places: &mut Vec<usize>,
+    places: &mut Places,
     line: &Line,
     span: Span,
     next: usize,
@@ -52,12 +56,12 @@ fn add_places(
 }
 
 /// The places of the pieces that have cells of the area, in order.
-pub fn places_of(alloc: Global, line: &Line, area: Area) -> Result<Vec<usize>, AllocError>
+pub fn places_of(alloc: Global, line: &Line, area: Area) -> Result<Places, AllocError>
     requires { LiesOn line.now.res line.now.shape line.now.pieces.size area }
     ensures { IfOk result (λ places. ArePlacesOf area line.now.res line.now.shape
         line.now.pieces.parts.items places.items) }
 {
-    let mut places = Vec::new(alloc);
+    let mut places = SmallVec::new(alloc);
     let mut next = 0;
     let spans = spans_of(alloc, line.shape, area)?;
     let list = spans.as_slice();

@@ -8,7 +8,7 @@ ghost use Rattle.sv_state.specs.Contents.{Contents, contents_of};
 ghost use Rattle.sv_space.specs.Own.{HaveOwnGroups, own_of};
 ghost use Rattle.sv_space.specs.Recorded.{IsRecording, TellsRaces};
 
-use crate::own::{on_cell, own_group};
+use crate::own::{all_on, on_cell, own_group};
 use std::alloc::{AllocError, Global};
 use sv_model::work::{Access, Cell, Group};
 use sv_state::CellState;
@@ -40,6 +40,18 @@ fn restart_if(state: &mut CellState, raced: bool)
     }
 }
 
+// Records these accesses in the state of a cell that each of them touches.
+fn record_these(state: &mut CellState, here: &[Access], groups: &[Group]) -> Result<(), AllocError>
+    requires { HaveOwnGroups groups.now here.now }
+    ensures { OnOk result ((raced : Bool) × (mid : Contents)
+        × IsRecording (own_of groups.now) here.now raced (contents_of state.old) mid
+        (contents_of state.new)) }
+{
+    let raced = races(state, here, groups);
+    restart_if(state, raced);
+    state.record(here)
+}
+
 /// Records a step's accesses in the state of a cell. Its epoch begins anew where one of them races.
 pub fn record_on(
     alloc: Global,
@@ -53,9 +65,9 @@ pub fn record_on(
         × IsRecording (own_of groups.now) (on_cell cell accesses.now) raced (contents_of state.old) mid
         (contents_of state.new)) }
 {
+    if all_on(accesses, cell) {
+        return record_these(state, accesses, groups);
+    }
     let list = on_cell(alloc, accesses, cell)?;
-    let here = list.as_slice();
-    let raced = races(state, here, groups);
-    restart_if(state, raced);
-    state.record(here)
+    record_these(state, list.as_slice(), groups)
 }

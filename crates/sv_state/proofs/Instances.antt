@@ -1,10 +1,13 @@
 -- What is reached on tokens, and on subpasses of render pass instances.
 use Rattle.std.proofs.Common.{ℕ, Bool, IsTrue, ◌↔◌, ◌≡◌, ◌<◌, ◌≤◌, ◌+◌, List, [], ◌∷◌, ◌++◌}
 use Rattle.std.proofs.Common.{refl, sym, ◌∙◌, ap, subst, Contains, length, get_or, take, Option, Some, None}
-use Rattle.std.proofs.Common.{MatchOption, arith}
+use Rattle.std.proofs.Common.{MatchOption, arith, ◌⊎◌, inl, inr}
 use Rattle.std.proofs.lemmas.List.{take_more}
 use Rattle.std.proofs.lemmas.Grind.{flat_map-append}
 use Rattle.std.proofs.Math.ListN.{set}
+use Rattle.std.proofs.lemmas.Bool.Decides.{eqb_tells}
+use Rattle.std.proofs.lemmas.List.Elements.{Contains-append_cases, Contains-append_right, Contains-push_cases}
+use Rattle.std.specs.Int.{bit_at}
 use Rattle.std.specs.List.{flat_map}
 use Rattle.sv_model.specs.Dependencies.{Compatible, IsOn, Sits}
 use Rattle.sv_model.specs.declared.work.Access.{Access}
@@ -14,12 +17,15 @@ use Rattle.sv_model.specs.declared.work.Track.TheVariants.{Queue, Sub, Token}
 use Rattle.sv_state.specs.declared.mask.Mask.{Mask}
 use Rattle.sv_state.specs.declared.runs.Run.{Run}
 use Rattle.sv_state.specs.declared.sub_runs.SubRuns.{SubRuns}
-use Rattle.sv_state.specs.Masks.{Mark, Adds, Leads, LeadsInto, Shows, ShownTo}
+use Rattle.std.specs.Int.RustNames.{bit_or}
+use Rattle.sv_mask.specs.Sets.{Has, Meets}
+use Rattle.sv_state.specs.Masks.{Mark, stage, Adds, Holds, Leads, LeadsInto, Shows, ShownTo}
 use Rattle.sv_state.specs.Numbers.{AreApart, IsNoneOn, IsOnlyOn, mask_at, runs_masks, on_token, on_sub}
-use Rattle.sv_state.specs.Numbers.{sub_masks, subs_masks, SomeMeets}
-use Rattle.sv_state.specs.Turns.{HaveNumbers}
+use Rattle.sv_state.specs.Numbers.{sub_masks, subs_masks}
+use Rattle.sv_state.specs.Turns.{HaveNumbers, IsUnion, SomeHas}
 use Rattle.sv_state.proofs.Numbers.{in_runs, from_runs, no_runs}
 use Rattle.sv_state.proofs.Parts.{Adds-set, Adds-pushed, found_in, found_from}
+use Rattle.sv_state.proofs.Unions.{Has-none, Has-or, Has-or_left, Has-or_right}
 
 -- the number of a track
 unfoldable number_of : Track → ℕ
@@ -64,6 +70,75 @@ never_shown runs x k (m, on, shows) =
     let q = (in_runs on_token runs m on).2 in
     subst (λ (y : Mask). IsOn x y.track) (sym q.is) shows.track
 
+-- each run has its first number
+have_in : (runs : List Run) → HaveNumbers runs → (r : Run) → Contains runs r → r.first ≤ r.last
+have_in runs have r (k, lt, is) = subst (λ (s : Run). s.first ≤ s.last) is (have k r lt)
+
+-- the stages of runs, and of the masks on their numbers
+module _ (place : ℕ → Track) (runs : List Run) where
+  held_stage : (t : Track) (s : ℕ) → Holds (runs_masks place runs) t (stage s) → SomeHas runs s
+  held_stage t s (m, by) =
+      let q = in_runs place runs m by.listed in
+      (q.0, q.1, subst (λ (x : Mask). Has x.stages.0 s) (sym q.2.is) by.marked)
+
+  stage_held : HaveNumbers runs → (r : Run) (s : ℕ) → Contains runs r → Has r.stages.0 s
+      → Holds (runs_masks place runs) (place r.first) (stage s)
+  stage_held have r s on h = (
+    mask_at place r r.first,
+    record {
+      listed = from_runs place runs r r.first on (omega arith) (have_in runs have r on);
+      track = refl;
+      marked = h;
+    },
+  )
+
+-- whether some run has the stage
+has_or_none : (runs : List Run) (s : ℕ) → SomeHas runs s ⊎ (¬ SomeHas runs s)
+has_or_none [] s = inr (λ h. absurd (let lt = h.1.1 in omega arith))
+has_or_none (r ∷ runs) s = elim (eqb_tells (bit_at r.stages.0 s) 1) [
+  | inl here ↦ inl (r, (0, omega arith, refl), here.1)
+  | inr other ↦ elim (has_or_none runs s) [
+    | inl later ↦ inl (later.0, Contains-append_right (r ∷ []) runs later.0 later.1, later.2)
+    | inr none ↦ inr (λ h. elim (Contains-append_cases (r ∷ []) runs h.0 h.1) [
+      | inl first ↦ other.1 (subst (λ (q : Run). Has q.stages.0 s) (sym (one_in r h.0 first)) h.2)
+      | inr rest ↦ none (h.0, rest, h.2)
+    ])
+  ]
+]
+  where
+    one_in : (r q : Run) → Contains (r ∷ []) q → r ≡ q
+    one_in r q on = elim (Contains-push_cases [] r q on)
+        [ inl none ↦ absurd (let lt = none.1 in omega arith) | inr same ↦ same ]
+
+some_has : (stages : ℕ) (runs : List Run) → IsUnion stages runs → (s : ℕ) → Has stages s → SomeHas runs s
+some_has stages runs is s h = elim (has_or_none runs s)
+    [ inl some ↦ some | inr none ↦ absurd (is.only s h none) ]
+
+-- no run has a stage
+pub union_none : (stages : ℕ) (runs : List Run) → stages ≡ 0 → runs ≡ [] → IsUnion stages runs
+union_none stages runs zero none = record {
+  only = λ s h no. Has-none s (subst (λ (n : ℕ). Has n s) zero h);
+  all = λ s r on h. absurd (let lt = (subst (λ (rs : List Run). Contains rs r) none on).1 in omega arith);
+}
+
+-- what is added brings its stages
+pub union_adds : (place : ℕ → Track) (old new : List Run) (stages : ℕ) (more : Mask) → HaveNumbers old
+    → HaveNumbers new → Adds (runs_masks place old) (runs_masks place new) more → IsUnion stages old
+    → (both : ℕ) → both ≡ bit_or stages more.stages.0 → IsUnion both new
+union_adds place old new stages more have_old have_new adds is both joined = record {
+  only = λ s h no. no (elim (Has-or stages more.stages.0 s (subst (λ (n : ℕ). Has n s) joined h)) [
+    | inl was ↦ (let r = some_has stages old is s was in held_stage place new (place r.0.first) s
+        (adds.old_stay (place r.0.first) (stage s) (stage_held place old have_old r.0 s r.1 r.2)))
+    | inr now ↦ held_stage place new more.track s (adds.more_is (stage s) now)
+  ]);
+  all = λ s r on h. subst (λ (n : ℕ). Has n s) (sym joined)
+      (elim (adds.only (place r.first) (stage s) (stage_held place new have_new r s on h)) [
+        | inl was ↦ (let q = held_stage place old (place r.first) s was in
+            Has-or_left stages more.stages.0 s (is.all s q.0 q.1 q.2))
+        | inr now ↦ Has-or_right stages more.stages.0 s now.1
+      ]);
+}
+
 -- runs of the instances of a queue, on one subpass
 module _ (p : SubRuns) where
   pub in_sub : (m : Mask) → Contains (sub_masks p) m → (n : ℕ) × (on_sub p n ≡ m.track)
@@ -91,29 +166,28 @@ module _ (p : SubRuns) where
   no_token d token is = on_other d (λ n c. subst (λ (t : Track). Compatible (on_sub p n) t) is c)
 
   -- a dependency from the queue follows each of its instances
-  pub queue_test : (d : Dep) (b : Bool) → d.from ≡ Queue p.queue → IsTrue b ↔ SomeMeets p.runs.items d.s1.0
+  pub queue_test : (d : Dep) (b : Bool) → d.from ≡ Queue p.queue → IsTrue b ↔ Meets p.stages.0 d.s1.0
       → IsTrue b ↔ LeadsInto (sub_masks p) d
   unfolding sub_masks
   queue_test d b is some = (
     λ t. (
-        let r = some.0 t in
-        let h : r.0.first ≤ r.0.last = have_in p.runs.items p.have_numbers r.0 r.1 in (
+        let k = some.0 t in
+        let r = some_has p.stages.0 p.runs.items p.is_union k.0 k.1 in
+        let h = have_in p.runs.items p.have_numbers r.0 r.1 in (
           mask_at (on_sub p) r.0 r.0.first,
           from_runs (on_sub p) p.runs.items r.0 r.0.first r.1 (omega arith) h,
           record {
             tracks = subst (λ (t : Track). Compatible (on_sub p r.0.first) t) (sym is) refl;
-            stages = r.2;
+            stages = (k.0, r.2, k.2);
           },
         )),
     λ l. (
         let r = in_runs (on_sub p) p.runs.items l.0 l.1 in
         let by : Leads (mask_at (on_sub p) r.0 r.2.number) d =
         subst (λ (x : Mask). Leads x d) (sym r.2.is) l.2 in
-        some.1 (r.0, r.1, by.stages)),
+        let k = by.stages in
+        some.1 (k.0, p.is_union.all k.0 r.0 r.1 k.1, k.2)),
   )
-    where
-      have_in : (runs : List Run) → HaveNumbers runs → (r : Run) → Contains runs r → r.first ≤ r.last
-      have_in runs have r (k, lt, is) = subst (λ (s : Run). s.first ≤ s.last) is (have k r lt)
 
   pub sub_track : (d : Dep) (instance : ℕ) → d.from ≡ on_sub p instance → (m : Mask)
       → Contains (sub_masks p) m → Leads m d → m.track ≡ d.from

@@ -9,8 +9,9 @@ use Rattle.sv_model.specs.declared.work.Access.{Access}
 use Rattle.sv_model.specs.declared.work.Cell.{Cell}
 use Rattle.sv_state.specs.Masks.{Mark, stage, Gives, Reaches, Stands}
 use Rattle.sv_state.specs.Outlines.{Whenever, IsSaturated, ArePassed}
-use Rattle.sv_state.specs.States.{AllChanged, HasAdvanced, HasComeTo, StandsFor, entries_of}
-use Rattle.sv_state.proofs.StateLaws.{access_before, state_advanced}
+use Rattle.sv_state.specs.States.{AreChangedFrom, HasAdvanced, HasComeTo, StandsFor, first_live, live_of}
+use Rattle.sv_state.specs.States.{live_written}
+use Rattle.sv_state.proofs.StateLaws.{access_before, reads_live, state_advanced, written_live}
 use Rattle.sv_state.specs.declared.entry.Entry.{Entry}
 use Rattle.sv_state.specs.declared.reached.Reached.{Reached}
 use Rattle.sv_state.specs.declared.state.CellState.{CellState}
@@ -126,7 +127,7 @@ module _ (deps more : List Placed) (cell : Cell) (a : Access) (step : ℕ) (up :
 
 -- a state that came to a step stands for what may be passed over up to there
 pub state_over : (old new : CellState) (step : ℕ)
-    → ((e : Entry) → Contains (entries_of new) e → (f : Entry) × Contains (entries_of old) f
+    → ((e : Entry) → Contains (live_of new) e → (f : Entry) × Contains (live_of old) f
     × (f.access ≡ e.access)) → old.step ≤ step → HasComeTo step old new
     → (story : Story) (epoch : ℕ) (more : List Placed) → StandsFor story epoch old
     → ArePassed story step old more → StandsFor (extended story more) epoch new
@@ -153,10 +154,12 @@ come_there state step is = record { step = is; stands = λ story epoch st. st }
 
 -- a state to which a later step came
 pub advanced_over : (old new : CellState) → old.step < new.step → new.alike ≡ old.alike
-    → AllChanged HasAdvanced old.written.items new.written.items
-    → AllChanged HasAdvanced old.reads.items new.reads.items
+    → AreChangedFrom (first_live old) HasAdvanced old.written.items new.written.items
+    → AreChangedFrom 0 HasAdvanced old.reads.items new.reads.items
     → (story : Story) (epoch : ℕ) (more : List Placed) → StandsFor story epoch old
     → ArePassed story new.step old more → StandsFor (extended story more) epoch new
 advanced_over old new lt alike written reads = state_over old new new.step
-    (access_before HasAdvanced (λ e f h. h.access) old.written.items new.written.items old.reads.items
-    new.reads.items written reads) (omega arith) (state_advanced old new lt alike written reads)
+    (access_before HasAdvanced (λ e f h. h.access) (live_written old) (live_written new) old.reads.items
+    new.reads.items (written_live HasAdvanced (λ e f h. h.access) old new alike written reads)
+    (reads_live HasAdvanced (λ e f h. h.access) old new alike written reads))
+    (omega arith) (state_advanced old new lt alike written reads)

@@ -1,12 +1,14 @@
 -- What a state stands for after each call.
 use Rattle.std.proofs.Common.{ℕ, IsTrue, false, true≢false, ◌≡◌, ◌<◌, ◌≤◌, ◌-◌, List, [], ◌++◌, inl, inr}
 use Rattle.std.proofs.Common.{arith, refl, sym, ◌∙◌, ap, subst, Contains, length, get_or, Option, Some}
-use Rattle.std.proofs.Common.{None, IfSome, Bor, length-append, map}
+use Rattle.std.proofs.Common.{None, IfSome, Bor, length-append, map, drop, true, ◌+◌}
 use Rattle.std.specs.Option.{option_copied}
 use Rattle.std.proofs.lemmas.Bool.{cases_lt}
 use Rattle.std.proofs.lemmas.List.{get_or_append_left, get_or-append_right, get_or_default, length-map}
+use Rattle.std.proofs.lemmas.List.{get_or-drop, length-drop}
 use Rattle.std.proofs.Math.ListN.{get_or-map}
-use Rattle.std.proofs.lemmas.List.Elements.{Contains-append_cases, Contains-get_or}
+use Rattle.std.proofs.lemmas.List.Elements.{Contains-append_cases, Contains-append_left, Contains-append_right}
+use Rattle.std.proofs.lemmas.List.Elements.{Contains-get_or}
 use Rattle.sv_model.specs.Cells.{covers, Within}
 use Rattle.sv_model.specs.Dependencies.{Placed, placed, own_deps, UpTo}
 use Rattle.sv_model.specs.Order.{Story, Before, NoRaces, IsBelow}
@@ -23,7 +25,9 @@ use Rattle.sv_state.specs.Masks.{AreReached, AreReachedBeside, Stands}
 use Rattle.sv_state.specs.Contents.{Contents, Item, contents_of, item_of}
 use Rattle.sv_state.specs.States.{AreListed, IsAtReads, AreParted, EachStands, entries_of, StandsFor}
 use Rattle.sv_state.specs.States.{AreLikeLast, AllChanged, HasAdvanced, HasGoneOn, HasComeTo, HasGrown}
-use Rattle.sv_state.specs.States.{IsReady, RangesHold}
+use Rattle.sv_state.specs.States.{IsReady, RangesHold, AreChangedFrom, first_live, live_from, live_of}
+use Rattle.sv_state.specs.States.{live_written}
+use Rattle.sv_state.proofs.Changes.{SameAccess, accesses_stay, changed_on}
 
 -- entries that changed, but not their accesses
 module _ (R : Entry → Entry → Type 0) (same : (e f : Entry) → R e f → f.access ≡ e.access)
@@ -134,26 +138,76 @@ like_last_stays R same olds news all alike k e l at_e at_l within =
     (alike k d m (get_or_default olds k d e (omega arith)) (get_or_default olds n m e (omega arith))
     (omega arith)))
 
+-- the entries of which it is kept what they reach are some of all
+pub live_in : (state : CellState) (e : Entry) → Contains (live_of state) e → Contains (entries_of state) e
+live_in state e on = elim (Contains-append_cases (live_written state) state.reads.items e on) [
+  | inl (k, lt, is) ↦ Contains-append_left state.written.items state.reads.items e (
+    first_live state + k,
+    (let l = length-drop (first_live state) state.written.items in omega (arith, l, lt)),
+    sym (get_or-drop (first_live state) state.written.items k e) ∙ is,
+  )
+  | inr read ↦ Contains-append_right state.written.items state.reads.items e read
+]
+
+-- a state of which each live entry changed, but not the accesses
+module _ (R : Entry → Entry → Type 0) (same : (e f : Entry) → R e f → f.access ≡ e.access)
+    (old new : CellState) (same_alike : new.alike ≡ old.alike)
+    (first : AreChangedFrom (first_live old) R old.written.items new.written.items)
+    (second : AreChangedFrom 0 R old.reads.items new.reads.items) where
+  written_stay : AllChanged SameAccess old.written.items new.written.items
+  written_stay = accesses_stay R same (first_live old) old.written.items new.written.items first
+
+  reads_stay : AllChanged SameAccess old.reads.items new.reads.items
+  reads_stay = accesses_stay R same 0 old.reads.items new.reads.items second
+
+  pub same_first : first_live new ≡ first_live old
+  same_first = ap (λ b. live_from b (length new.written.items)) same_alike
+      ∙ ap (λ n. live_from old.alike n) first.long
+
+  pub written_live : AllChanged R (live_written old) (live_written new)
+  written_live = subst (λ n. AllChanged R (live_written old) (drop n new.written.items)) (sym same_first)
+      (changed_on R (first_live old) old.written.items new.written.items first.long first.each)
+
+  pub reads_live : AllChanged R old.reads.items new.reads.items
+  reads_live = record { long = second.long; each = λ k d lt. second.each k d (omega arith) lt }
+
+  pub all_live : AllChanged R (live_of old) (live_of new)
+  all_live = changed_both R (live_written old) (live_written new) old.reads.items new.reads.items
+      written_live reads_live
+
+  pub stay_listed : {xs : List Access} {epoch : ℕ} → AreListed xs epoch (entries_of old)
+      → AreListed xs epoch (entries_of new)
+  stay_listed = lists_stay SameAccess (λ e f h. h) (entries_of old) (entries_of new)
+      (changed_both SameAccess old.written.items new.written.items old.reads.items new.reads.items
+      written_stay reads_stay)
+
+  pub stay_parted : (xs : List Access) → AreParted xs old.written.items old.reads.items
+      → AreParted xs new.written.items new.reads.items
+  stay_parted xs = parted_stays SameAccess (λ e f h. h) xs old.written.items new.written.items
+      old.reads.items new.reads.items written_stay reads_stay
+
+  pub stay_alike : (old.alike ≡ true → AreLikeLast old.written.items) → new.alike ≡ true
+      → AreLikeLast new.written.items
+  stay_alike alike t = like_last_stays SameAccess (λ e f h. h) old.written.items new.written.items
+      written_stay (alike (sym same_alike ∙ t))
+
 -- a later step begins
 pub state_advanced : (old new : CellState) → old.step < new.step → new.alike ≡ old.alike
-    → AllChanged HasAdvanced old.written.items new.written.items
-    → AllChanged HasAdvanced old.reads.items new.reads.items → HasComeTo new.step old new
+    → AreChangedFrom (first_live old) HasAdvanced old.written.items new.written.items
+    → AreChangedFrom 0 HasAdvanced old.reads.items new.reads.items → HasComeTo new.step old new
 state_advanced old new lt same_alike first second = record {
   step = refl;
-  stands = λ story epoch st. (
-      let all = changed_both HasAdvanced old.written.items new.written.items old.reads.items new.reads.items
-      first second in
-      record {
-        lists = lists_stay HasAdvanced (λ e f h. h.access) (entries_of old) (entries_of new) all st.lists;
-        parted = parted_stays HasAdvanced (λ e f h. h.access) story.accesses old.written.items
-            new.written.items old.reads.items new.reads.items first second st.parted;
-        up_to = λ d on. (let h = st.up_to d on in omega arith);
-        each = each_goes HasAdvanced (λ e f h. h.access) (entries_of old)
-            (entries_of new) all story.cell story.deps story.deps old.step new.step
-            (λ e f h. h.stands story.cell story.deps old.step new.step lt) st.each;
-        alike = λ t. like_last_stays HasAdvanced (λ e f h. h.access) old.written.items new.written.items
-            first (st.alike (sym same_alike ∙ t));
-      });
+  stands = λ story epoch st. record {
+    lists = stay_listed HasAdvanced (λ e f h. h.access) old new same_alike first second st.lists;
+    parted = stay_parted HasAdvanced (λ e f h. h.access) old new same_alike first second story.accesses
+        st.parted;
+    up_to = λ d on. (let h = st.up_to d on in omega arith);
+    each = each_goes HasAdvanced (λ e f h. h.access) (live_of old) (live_of new)
+        (all_live HasAdvanced (λ e f h. h.access) old new same_alike first second)
+        story.cell story.deps story.deps old.step new.step
+        (λ e f h. h.stands story.cell story.deps old.step new.step lt) st.each;
+    alike = stay_alike HasAdvanced (λ e f h. h.access) old new same_alike first second st.alike;
+  };
 }
 
 -- entries that hold the same
@@ -182,22 +236,30 @@ pub stands_same : (old new : CellState) → contents_of new ≡ contents_of old 
     → StandsFor story epoch old → StandsFor story epoch new
 stands_same old new same story epoch st =
     let step : new.step ≡ old.step = ap (λ (c : Contents). c.step) same in
+    let alike : new.alike ≡ old.alike = ap (λ (c : Contents). c.alike) same in
     let first = hold_same old.written.items new.written.items (ap (λ (c : Contents). c.written) same) in
     let second = hold_same old.reads.items new.reads.items (ap (λ (c : Contents). c.reads) same) in
     let all = changed_both HoldSame old.written.items new.written.items old.reads.items new.reads.items
     first second in
+    let from : first_live new ≡ first_live old = ap (λ b. live_from b (length new.written.items)) alike
+    ∙ ap (λ n. live_from old.alike n) first.long in
+    let written : AllChanged HoldSame (live_written old) (live_written new) =
+    subst (λ n. AllChanged HoldSame (live_written old) (drop n new.written.items)) (sym from)
+    (changed_on HoldSame (first_live old) old.written.items new.written.items first.long
+    (λ k d le. first.each k d)) in
     record {
       lists = lists_stay HoldSame (λ e f h. ap (λ (i : Item). i.access) h) (entries_of old)
           (entries_of new) all st.lists;
       parted = parted_stays HoldSame (λ e f h. ap (λ (i : Item). i.access) h) story.accesses
           old.written.items new.written.items old.reads.items new.reads.items first second st.parted;
       up_to = subst (λ n. UpTo story.deps n) (sym step) st.up_to;
-      each = subst (λ n. EachStands story.cell story.deps n (entries_of new)) (sym step)
-          (each_goes HoldSame (λ e f h. ap (λ (i : Item). i.access) h) (entries_of old)
-          (entries_of new) all story.cell story.deps story.deps old.step old.step
+      each = subst (λ n. EachStands story.cell story.deps n (live_of new)) (sym step)
+          (each_goes HoldSame (λ e f h. ap (λ (i : Item). i.access) h) (live_of old) (live_of new)
+          (changed_both HoldSame (live_written old) (live_written new) old.reads.items new.reads.items
+          written second) story.cell story.deps story.deps old.step old.step
           (stands_same_item story.cell story.deps old.step) st.each);
       alike = λ t. like_last_stays HoldSame (λ e f h. ap (λ (i : Item). i.access) h) old.written.items
-          new.written.items first (st.alike (sym (ap (λ (c : Contents). c.alike) same) ∙ t));
+          new.written.items first (st.alike (sym alike ∙ t));
     }
 
 up_to_more : (deps : List Placed) (g : Group) → UpTo deps g.step → UpTo (deps ++ placed g) g.step
@@ -207,40 +269,40 @@ up_to_more deps g up d on = elim (Contains-append_cases deps (placed g) d on)
 -- the entries go through a group of the present step
 pub state_grown : (at : Cell) (g : Group) (first old new : CellState) → HasComeTo g.step first old
     → new.step ≡ old.step → new.alike ≡ old.alike
-    → AllChanged (HasGoneOn at g) old.written.items new.written.items
-    → AllChanged (HasGoneOn at g) old.reads.items new.reads.items → HasGrown at g first new
+    → AreChangedFrom (first_live old) (HasGoneOn at g) old.written.items new.written.items
+    → AreChangedFrom 0 (HasGoneOn at g) old.reads.items new.reads.items → HasGrown at g first new
 state_grown at g first old new come same same_alike of_written of_reads = record {
   step = same ∙ come.step;
   stands = λ story epoch alike before.
       let st = come.stands story epoch before in
       let now : new.step ≡ g.step = same ∙ come.step in
-      let all = changed_both (HasGoneOn at g) old.written.items new.written.items old.reads.items
-      new.reads.items of_written of_reads in
       record {
-        lists = lists_stay (HasGoneOn at g) (λ e f h. h.access) (entries_of old)
-            (entries_of new) all st.lists;
-        parted = parted_stays (HasGoneOn at g) (λ e f h. h.access) story.accesses old.written.items
-            new.written.items old.reads.items new.reads.items of_written of_reads st.parted;
+        lists = stay_listed (HasGoneOn at g) (λ e f h. h.access) old new same_alike of_written of_reads
+            st.lists;
+        parted = stay_parted (HasGoneOn at g) (λ e f h. h.access) old new same_alike of_written of_reads
+            story.accesses st.parted;
         up_to = subst (λ n. UpTo (story.deps ++ placed g) n) (sym now)
             (up_to_more story.deps g (subst (λ n. UpTo story.deps n) come.step st.up_to));
-        each = subst (λ n. EachStands story.cell (story.deps ++ placed g) n (entries_of new)) (sym now)
-            (each_goes (HasGoneOn at g) (λ e f h. h.access) (entries_of old)
-            (entries_of new) all story.cell story.deps (story.deps ++ placed g) g.step g.step
+        each = subst (λ n. EachStands story.cell (story.deps ++ placed g) n (live_of new)) (sym now)
+            (each_goes (HasGoneOn at g) (λ e f h. h.access) (live_of old) (live_of new)
+            (all_live (HasGoneOn at g) (λ e f h. h.access) old new same_alike of_written of_reads)
+            story.cell story.deps (story.deps ++ placed g) g.step g.step
             (λ e f h. h.stands story.cell alike story.deps)
-            (subst (λ n. EachStands story.cell story.deps n (entries_of old)) come.step st.each));
-        alike = λ t. like_last_stays (HasGoneOn at g)
-            (λ e f h. h.access) old.written.items new.written.items of_written
-            (st.alike (sym same_alike ∙ t));
+            (subst (λ n. EachStands story.cell story.deps n (live_of old)) come.step st.each));
+        alike = stay_alike (HasGoneOn at g) (λ e f h. h.access) old new same_alike of_written of_reads
+            st.alike;
       };
 }
 
-pub state_grown_at : (at cell : Cell) → at ≡ cell → (g : Group) (first old new : CellState)
-    → HasComeTo g.step first old → new.step ≡ old.step → new.alike ≡ old.alike
-    → AllChanged (HasGoneOn at g) old.written.items new.written.items
-    → AllChanged (HasGoneOn at g) old.reads.items new.reads.items → HasGrown cell g first new
-state_grown_at at cell is g first old new come same same_alike of_written of_reads =
+pub state_grown_at : (at cell : Cell) → at ≡ cell → (g : Group) (first old new : CellState) (from : ℕ)
+    → from ≡ first_live old → HasComeTo g.step first old → new.step ≡ old.step → new.alike ≡ old.alike
+    → AreChangedFrom from (HasGoneOn at g) old.written.items new.written.items
+    → AreChangedFrom 0 (HasGoneOn at g) old.reads.items new.reads.items → HasGrown cell g first new
+state_grown_at at cell is g first old new from here come same same_alike of_written of_reads =
     subst (λ (c : Cell). HasGrown c g first new) is
-    (state_grown at g first old new come same same_alike of_written of_reads)
+    (state_grown at g first old new come same same_alike
+    (subst (λ n. AreChangedFrom n (HasGoneOn at g) old.written.items new.written.items) here of_written)
+    of_reads)
 
 -- nothing is kept
 pub none_on : {P : Type 0} (e : Entry) → Contains [] e → P
@@ -263,7 +325,7 @@ state_restarted old new same apart none no_reads story epoch next st before = re
     reads = λ e on. none_on e (subst (λ (es : List Entry). Contains es e) no_reads on);
   };
   up_to = subst (λ n. UpTo story.deps n) (sym same) st.up_to;
-  each = λ e on. none_on e (subst (λ (es : List Entry). Contains es e) nothing on);
+  each = λ e on. none_on e (subst (λ (es : List Entry). Contains es e) nothing (live_in new e on));
   alike = λ t. absurd (true≢false (sym t ∙ apart));
 }
   where
@@ -280,10 +342,9 @@ own_held x cell (Some g) held on d c = held d.dep cell (placed_dep g.now d c) on
 pub state_ready : (state : CellState) (x : Access) (group : Option (Bor Group)) (story : Story) (epoch : ℕ)
     → IfSome group (λ g. RangesHold g.now x.area) → StandsFor story epoch state → NoRaces story epoch
     → IsBelow x.step story → IsTrue (covers x.area story.cell)
-    → IsReady story epoch state.step (entries_of state) x (option_copied group)
+    → IsReady story epoch (entries_of state) x (option_copied group)
 state_ready state x group story epoch held st clean below on = record {
   lists = st.lists;
-  each = st.each;
   clean = clean;
   after = below.accesses;
   earlier = record { before = below.deps; held = own_held x story.cell group held on };

@@ -1,7 +1,6 @@
 -- Runs of numbers, of tokens or of render pass instances, on each of which the same is reached.
 use Rattle.std.specs.Prelude.{ℕ, ◌+◌, ◌-◌, ◌≤◌, ◌≡◌, ◌++◌, List, map, Contains}
 use Rattle.std.specs.List.{flat_map, range_with_len}
-use Rattle.sv_mask.specs.Sets.{Meets}
 use Rattle.sv_model.specs.declared.work.Track.{Track}
 use Rattle.sv_model.specs.declared.work.Track.TheVariants.{Sub, Token}
 use Rattle.sv_state.specs.declared.mask.Mask.{Mask}
@@ -48,10 +47,6 @@ IsNoneOn masks t = (m : Mask) → Contains masks m → m.track ≡ t → ⊥
 pub record IsOnlyOn (masks : List Mask) (t : Track) (m : Mask) : Type 0 where
   pub listed : Contains masks m
   pub only : (n : Mask) → Contains masks n → n.track ≡ t → m ≡ n
-
--- some run meets the first stages of d
-abbrev pub SomeMeets : List Run → ℕ → Type 0
-SomeMeets runs stages = (r : Run) × Contains runs r × Meets r.stages.0 stages
 
 -- the run goes on with this number and mask
 pub record GoesOn (r : Run) (number : ℕ) (m : Mask) : Type 0 where

@@ -9,7 +9,7 @@ use Rattle.sv_model.specs.declared.work.Group.{Group}
 use Rattle.sv_model.specs.declared.work.Track.{Track}
 use Rattle.sv_model.specs.declared.work.Track.TheVariants.{Queue, Sub, Token}
 use Rattle.sv_state.specs.Masks.{Mark, Gives, Reaches, Stands}
-use Rattle.sv_state.specs.States.{entries_of}
+use Rattle.sv_state.specs.States.{live_of}
 use Rattle.sv_state.specs.declared.entry.Entry.{Entry}
 use Rattle.sv_state.specs.declared.reached.Reached.{Reached}
 use Rattle.sv_state.specs.declared.state.CellState.{CellState}
@@ -57,7 +57,7 @@ AreUpTo step entries = (e : Entry) → Contains entries e → e.access.step ≤ 
 
 -- the group adds nothing to the state, if it is later than its accesses
 abbrev pub AddsNothing : CellState → Group → Type 0
-AddsNothing state g = (e : Entry) (d : Dep) → Contains (entries_of state) e → Contains g.deps d
+AddsNothing state g = (e : Entry) (d : Dep) → Contains (live_of state) e → Contains g.deps d
     → IsQuiet e.access e.reached (outline d)
 
 -- each of these dependencies is of a step from the state's on up to this one, and adds nothing to a state
@@ -65,5 +65,5 @@ AddsNothing state g = (e : Entry) (d : Dep) → Contains (entries_of state) e �
 pub record ArePassed (story : Story) (step : ℕ) (state : CellState) (more : List Placed) : Type 0 where
   pub low : (n : Placed) → Contains more n → state.step ≤ n.group.step
   pub high : (n : Placed) → Contains more n → n.group.step ≤ step
-  pub quiet : (n : Placed) (e : Entry) → Contains more n → Contains (entries_of state) e
+  pub quiet : (n : Placed) (e : Entry) → Contains more n → Contains (live_of state) e
       → IsSaturated story.deps story.cell e.access n

@@ -1,6 +1,7 @@
 -- Runs in the order of their numbers.
-use Rattle.std.specs.Prelude.{ℕ, ◌<◌, ◌≤◌, ◌-◌, List, length, slice_index_or}
+use Rattle.std.specs.Prelude.{ℕ, ◌<◌, ◌≤◌, ◌-◌, List, length, slice_index_or, Contains}
 use Rattle.std.specs.List.{All, AllPairs}
+use Rattle.sv_mask.specs.Sets.{Has}
 use Rattle.sv_state.specs.declared.runs.Run.{Run}
 
 -- each run ends before the later ones begin
@@ -23,3 +24,12 @@ EndBy number runs = (d : Run) → 0 < length runs → (slice_index_or runs (leng
 pub record Reach (number : ℕ) (runs : List Run) : Type 0 where
   pub some : 0 < length runs
   pub last : (d : Run) → number ≤ (slice_index_or runs (length runs - 1) d).last
+
+-- some run has the stage
+abbrev pub SomeHas : List Run → ℕ → Type 0
+SomeHas runs s = (r : Run) × Contains runs r × Has r.stages.0 s
+
+-- these are the stages of all runs together
+pub record IsUnion (stages : ℕ) (runs : List Run) : Type 0 where
+  pub only : (s : ℕ) → Has stages s → ¬ (¬ SomeHas runs s)
+  pub all : (s : ℕ) (r : Run) → Contains runs r → Has r.stages.0 s → Has stages s

@@ -248,6 +248,6 @@ impl Reached {
     pub fn adds(&self, a: &Access, d: &Dep) -> bool
         ensures { result ≡ false → IsQuiet a.now self.now d.now }
     {
-        self.may_enter(a, d) && !self.cover(mask_of(d, true))
+        !self.cover(mask_of(d, true)) && self.may_enter(a, d)
     }
 }

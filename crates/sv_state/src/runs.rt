@@ -3,7 +3,7 @@ ghost use Rattle.std.specs.Prelude.{◌≡◌, ◌<◌, ◌≤◌, ℕ, IsTrue, 
 ghost use Rattle.std.specs.Prelude.{slice_index_or};
 ghost use Rattle.sv_model.specs.declared.work.Track.{Track};
 ghost use Rattle.sv_state.specs.Masks.{Adds, LeadsInto};
-ghost use Rattle.sv_state.specs.Numbers.{AreApart, GoesOn, IsNoneOn, IsOnlyOn, SomeMeets, on_token};
+ghost use Rattle.sv_state.specs.Numbers.{AreApart, GoesOn, IsNoneOn, IsOnlyOn, on_token};
 ghost use Rattle.sv_state.specs.Numbers.{runs_masks};
 ghost use Rattle.sv_state.specs.Turns.{AreInTurn, EndBefore, EndBy, HaveNumbers, Reach};
 
@@ -214,16 +214,4 @@ pub fn tokens_lead(runs: &[Run], d: &Dep) -> bool
         Track::Token(token) => token_leads(runs, token, d),
         _ => false,
     }
-}
-
-/// Whether some run has one of the stages.
-pub fn some_meets(runs: &[Run], stages: Stages) -> bool
-    ensures { IsTrue result ↔ SomeMeets runs.now stages.0 }
-{
-    for r in runs {
-        if r.stages.meets(stages) {
-            return true;
-        }
-    }
-    false
 }

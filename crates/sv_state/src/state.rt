@@ -12,7 +12,7 @@ ghost use Rattle.sv_model.specs.declared.work.Cell.{Cell};
 
 use crate::copying::copies_of;
 use crate::entry::{
-    Entry, advance_all, extend_all, last_racing, last_racing_alike, newest_of, some_add,
+    Entry, advance_from, extend_from, last_racing, last_racing_alike, newest_of, some_add,
 };
 use crate::keeping::{all_alike, entries_of, last_of_keys, some_writes, take_place};
 use std::alloc::{AllocError, Global};
@@ -23,7 +23,7 @@ use sv_model::work::{Access, Area, Cell, Dep, Group, Partner};
 /// key. All others of the epoch are ordered where these are.
 ///
 /// `step` is the step of the last group that it went through, or 0. `alike` says that the accesses of the
-/// step that writes are alike, so that one look tells of all.
+/// step that writes are alike: then chains reach the same from each, and only the last one keeps it.
 #[derive(Drop)]
 pub struct CellState {
     written: Vec<Entry>,
@@ -132,7 +132,7 @@ impl CellState {
         ensures { (self.now.alike ≡ true → AreLikeLast self.now.written.items)
             → (cell : Cell) (deps : List Placed) (step : ℕ)
             → IsEarlier deps cell access.now (option_copied group.entry)
-            → EachStands cell deps step self.now.written.items
+            → EachStands cell deps step (spec.live_written self.now)
             → MatchOption result
             (AllDirected (deps ++ own_deps (option_copied group.entry)) cell access.now
             self.now.written.items)
@@ -144,6 +144,19 @@ impl CellState {
             last_racing_alike(&self.written, access, group)
         } else {
             last_racing(&self.written, access, group)
+        }
+    }
+
+    /// The first of the accesses of the step that writes that keeps what is reached from it.
+    fn first_live(&self) -> usize
+        ensures place { result ≡ spec.first_live self.now }
+        ensures listed { result ≤ length self.now.written.items }
+    {
+        let count = self.written.len();
+        if self.alike && count > 0 {
+            count - 1
+        } else {
+            0
         }
     }
 
@@ -219,9 +232,11 @@ impl CellState {
     /// Whether a group that is later than all accesses of the state, with dependencies of these outlines,
     /// may add to what they reach.
     pub fn adds(&self, outlines: &[Dep]) -> bool
-        ensures { result ≡ false → AreQuiet (spec.entries_of self.now) outlines.now }
+        ensures { result ≡ false → AreQuiet (spec.live_of self.now) outlines.now }
     {
-        some_add(&self.written, outlines) || some_add(&self.reads, outlines)
+        let first = self.first_live();
+        let written = self.written.as_slice();
+        some_add(&written[first..], outlines) || some_add(&self.reads, outlines)
     }
 
     /// A later step begins. Dependencies that add nothing may be passed over up to there. Where memory is
@@ -233,8 +248,9 @@ impl CellState {
             → ArePassed story step self.old more → StandsFor (extended story more) epoch self.new) }
     {
         if self.step < step {
-            advance_all(&mut self.written)?;
-            advance_all(&mut self.reads)?;
+            let first = self.first_live();
+            advance_from(&mut self.written, first)?;
+            advance_from(&mut self.reads, 0)?;
             self.step = step;
         }
         Ok(())
@@ -248,8 +264,9 @@ impl CellState {
     {
         self.come_to(group.step)?;
         let cell = cell_of(at);
-        extend_all(&mut self.written, group, cell)?;
-        extend_all(&mut self.reads, group, cell)?;
+        let first = self.first_live();
+        extend_from(&mut self.written, first, group, cell)?;
+        extend_from(&mut self.reads, 0, group, cell)?;
         Ok(())
     }
 

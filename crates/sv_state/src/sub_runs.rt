@@ -1,20 +1,24 @@
 //! What is reached on one subpass of the render pass instances of a queue.
-ghost use Rattle.sv_state.specs.Turns.{AreInTurn, HaveNumbers};
+ghost use Rattle.sv_state.specs.Turns.{AreInTurn, HaveNumbers, IsUnion};
 
 use crate::mask::{Mask, leads, shows};
-use crate::runs::{Run, add_at, end_by, mask_at, some_meets};
+use crate::runs::{Run, add_at, end_by, mask_at};
 use std::alloc::{AllocError, Global};
-use sv_mask::Usage;
+use sv_mask::{Stages, Usage};
 use sv_model::work::{Access, Dep, Track};
 
 /// Runs of the instances of that queue, on each of which this subpass is reached.
+///
+/// `stages` are those of all runs together, so that one look tells of all.
 #[derive(Drop)]
 pub struct SubRuns {
     pub queue: u32,
     pub subpass: u32,
     pub runs: Vec<Run>,
+    pub stages: Stages,
     pub ghost in_turn: { AreInTurn runs.items },
     pub ghost have_numbers: { HaveNumbers runs.items },
+    pub ghost is_union: { IsUnion stages.0 runs.items },
 }
 
 impl SubRuns {
@@ -35,6 +39,7 @@ impl SubRuns {
             queue,
             subpass,
             runs: Vec::new(alloc),
+            stages: Stages(0),
         }
     }
 
@@ -47,6 +52,7 @@ impl SubRuns {
             queue: self.queue,
             subpass: self.subpass,
             runs,
+            stages: self.stages,
         })
     }
 
@@ -64,13 +70,23 @@ impl SubRuns {
         end_by(&self.runs, instance)
     }
 
-    /// Adds what is reached on an instance behind which no run ends.
+    /// Adds what is reached on an instance behind which no run ends. Where memory is missing nothing is kept.
     pub fn add(&mut self, instance: u64, more: Mask) -> Result<(), AllocError>
         requires by { EndBy instance self.old.runs.items }
         requires track { more.track ≡ on_sub self.old instance }
         ensures { OnOk result (Adds (sub_masks self.old) (sub_masks self.new) more) }
     {
-        add_at(&mut self.runs, instance, more)
+        match add_at(&mut self.runs, instance, more) {
+            Ok(()) => {
+                self.stages = self.stages.union(more.stages);
+                Ok(())
+            }
+            Err(e) => {
+                self.runs.clear();
+                self.stages = Stages(0);
+                Err(e)
+            }
+        }
     }
 
     /// Whether d, which comes from this queue, may follow what is reached.
@@ -79,7 +95,7 @@ impl SubRuns {
         ensures { IsTrue result ↔ LeadsInto (sub_masks self.now) d.now }
     {
         if self.queue == queue {
-            some_meets(&self.runs, d.s1)
+            self.stages.meets(d.s1)
         } else {
             false
         }

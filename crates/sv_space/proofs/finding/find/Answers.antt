@@ -24,7 +24,7 @@ find_at-requires-clause-listed c =
     let i = c.loop-place.place-index in
     let lt = c.loop-place-test.true in
     c.in_ok-places.ensures.listed (get_or list i 0)
-    (subst (λ (xs : List ℕ). Contains xs (get_or list i 0)) c.as_slice-list.ensures.value
+    (subst (λ (xs : List ℕ). Contains xs (get_or list i 0)) c.as_slice-list.ensures
     (i, lt, get_or_default list i (get_or list i 0) 0 lt))
 
 pub find_at-requires-clause-in_mip : goal.find_at-requires-clause-in_mip
@@ -36,7 +36,7 @@ find_at-requires-clause-in_mip c =
     place_in_mip line.res line.shape line.pieces.size line.shaped line.pieces.parts.items line.pieces.cover
     c.args.access.now c.requires.lies c.requires.cut c.in_ok-places.places.items c.in_ok-places.ensures
     (get_or list i 0)
-    (subst (λ (xs : List ℕ). Contains xs (get_or list i 0)) c.as_slice-list.ensures.value
+    (subst (λ (xs : List ℕ). Contains xs (get_or list i 0)) c.as_slice-list.ensures
     (i, lt, get_or_default list i (get_or list i 0) 0 lt))
 
 pub find_at-requires-clause-runs : goal.find_at-requires-clause-runs
@@ -54,7 +54,7 @@ loop-place-preserved c =
     let lt = c.loop-place-test.true in
     let placed : ArePlacesOf x.area line.res line.shape parts list =
     subst (λ (xs : List ℕ). ArePlacesOf x.area line.res line.shape parts xs)
-    (sym c.as_slice-list.ensures.value) c.in_ok-places.ensures in
+    (sym c.as_slice-list.ensures) c.in_ok-places.ensures in
     let d : Part Known = some_part parts line.pieces.cover.some in record {
       runs = one.runs;
       found = λ work step steps next on own caught stand f. (
@@ -82,7 +82,7 @@ returns-clause-found c = λ work step steps next on own caught stand f. (
     let list = c.as_slice-list.result.now in
     let placed : ArePlacesOf x.area line.res line.shape parts list =
     subst (λ (xs : List ℕ). ArePlacesOf x.area line.res line.shape parts xs)
-    (sym c.as_slice-list.ensures.value) c.in_ok-places.ensures in
+    (sym c.as_slice-list.ensures) c.in_ok-places.ensures in
     found_last line.res line.shape line.pieces.size line.shaped parts line.pieces.cover x c.requires.lies
     c.requires.cut list placed work steps step next on c.loop-place.place-index
     (spots_of c.loop-place.reports) c.loop-place-test.false

@@ -11,8 +11,8 @@ returns-clause-known c =
     let quiet = quiet_asked c.args.state.now c.args.patterns.now.items c.args.number c.index.result.now
     c.as_slice.result.now (omega arith) c.index.ensures c.as_slice.ensures.value
     (c.adds.ensures c.if-adds.false) in
-    subst (λ (set : ℕ). AreQuietPatterns c.args.state.now c.args.patterns.now.items set) (sym c.with.ensures)
-    (quiet_with c.args.state.now c.args.patterns.now.items c.args.quiet.now c.args.number quiet c.requires)
+    subst (λ (set : ℕ). AreQuietPatterns c.args.state.now c.args.patterns.now.items set) (sym c.with-asked-2.ensures)
+    (quiet_with c.args.state.now c.args.patterns.now.items c.args.asked.now.quiet c.args.number quiet c.requires)
 
 pub returns-clause-quiet : goal.returns-clause-quiet
 returns-clause-quiet c = λ none. quiet_asked c.args.state.now c.args.patterns.now.items c.args.number

@@ -6,7 +6,7 @@ use Rattle.sv_space.proofs.passing.next_in.Given as goal
 abbrev pub invariant-loop-place : goal.invariant-loop-place
 invariant-loop-place l = record {
   first : l.from ≤ l.place;
-  known : AreQuietPatterns l.state l.patterns.items l.quiet;
+  known : AreQuietPatterns l.state l.patterns.items l.asked.quiet;
   passed : AreQuietFrom l.from l.place l.state l.patterns.items l.numbers.items;
 }
 

@@ -13,7 +13,7 @@ loop-number-init c = record {
 
 pub loop-number-preserved : goal.loop-number-preserved
 loop-number-preserved c = record {
-  items = c.in_ok-push.ensures.items
+  items = c.in_ok-push.ensures.ok
       ∙ ap (λ (xs : List ℕ). xs ++ c.loop-number.number ∷ []) c.loop-number.invariant.items
       ∙ append_assoc c.args.list.now.items (range_with_len c.args.from (c.loop-number.number - c.args.from))
       (c.loop-number.number ∷ [])

@@ -24,7 +24,7 @@ record_at-requires-clause-listed c =
     let lt = c.loop-place-test.true in
     let long = c.loop-place.invariant.spans.long in
     let h = c.in_ok-places.ensures.listed (get_or list i 0)
-    (subst (λ (xs : List ℕ). Contains xs (get_or list i 0)) c.as_slice-list.ensures.value
+    (subst (λ (xs : List ℕ). Contains xs (get_or list i 0)) c.as_slice-list.ensures
     (i, lt, get_or_default list i (get_or list i 0) 0 lt)) in
     omega (arith, long, h)
 
@@ -40,7 +40,7 @@ loop-place-preserved c =
     let new = c.record_at.new.line in
     let rising : AllPairs (λ (a b : ℕ). a < b) list =
     subst (λ (xs : List ℕ). AllPairs (λ (a b : ℕ). a < b) xs)
-    (sym c.as_slice-list.ensures.value) c.in_ok-places.ensures.rising in record {
+    (sym c.as_slice-list.ensures) c.in_ok-places.ensures.rising in record {
       same = then_line first old new was.same one.line;
       spans = then_spans first.pieces.parts.items old.pieces.parts.items new.pieces.parts.items was.spans
           one.spans;
@@ -62,7 +62,7 @@ returns-clause-marked c =
     let x : Access = get_or c.args.accesses.now c.args.number _ in
     let placed : ArePlacesOf x.area first.res first.shape pieces.parts.items list =
     subst (λ (xs : List ℕ). ArePlacesOf x.area first.res first.shape pieces.parts.items xs)
-    (sym c.as_slice-list.ensures.value) c.in_ok-places.ensures in
+    (sym c.as_slice-list.ensures) c.in_ok-places.ensures in
     let same : (y : Access) → get_or c.args.accesses.now c.args.number y ≡ x =
     λ y. get_or_default c.args.accesses.now c.args.number y _ c.requires.number in record {
       spans = was.spans;

@@ -24,7 +24,7 @@ returns-in_err-places-clause-within c =
 
 pub catch_up-requires-clause-listed : goal.catch_up-requires-clause-listed
 catch_up-requires-clause-listed c = λ k on. c.in_ok-places.ensures.listed k
-    (subst (λ (xs : List ℕ). Contains xs k) c.as_slice.ensures.value on)
+    (subst (λ (xs : List ℕ). Contains xs k) c.as_slice.ensures on)
 
 pub catch_up-requires-clause-within : goal.catch_up-requires-clause-within
 catch_up-requires-clause-within c =
@@ -66,7 +66,7 @@ returns-clause-caught c = on_ok_weaker c.catch_up.result (λ caught. (
     c.in_ok-places.places.items) old mid c.cut.ensures.line c.in_ok-places.ensures in
     caught_for c.args.area (length c.args.log.now) old.res old.shape mid.pieces.parts.items
     c.catch_up.new.self.pieces.parts.items c.catch_up.ensures.spans c.in_ok-places.places.items placed.all
-    (λ k d on. caught k d (subst (λ (xs : List ℕ). Contains xs k) (sym c.as_slice.ensures.value) on))))
+    (λ k d on. caught k d (subst (λ (xs : List ℕ). Contains xs k) (sym c.as_slice.ensures) on))))
     c.catch_up.ensures.caught
 
 pub returns-clause-others : goal.returns-clause-others
@@ -79,7 +79,7 @@ returns-clause-others c = on_ok_weaker c.catch_up.result (λ others at n apart w
     apart_caught c.args.area at n old.res old.shape mid.pieces.parts.items
     c.catch_up.new.self.pieces.parts.items c.catch_up.ensures.spans c.in_ok-cut.ensures.cut
     c.in_ok-places.places.items placed
-    (λ k d free. others k d (λ on. free (subst (λ (xs : List ℕ). Contains xs k) c.as_slice.ensures.value
+    (λ k d free. others k d (λ on. free (subst (λ (xs : List ℕ). Contains xs k) c.as_slice.ensures
     on))) apart
     (caught_later n mid.pieces.parts.items old.pieces.parts.items
     (later_of_parts n mid.pieces.parts.items old.pieces.parts.items c.cut.ensures.parts) at old.res
@@ -98,7 +98,7 @@ returns-clause-none c = IfOk-weaker c.catch_up.result _ _ (λ given none was. (
     old.res old.shape was in
     none (λ k d on.
     let here : Contains c.in_ok-places.places.items k =
-    subst (λ (xs : List ℕ). Contains xs k) c.as_slice.ensures.value on in
+    subst (λ (xs : List ℕ). Contains xs k) c.as_slice.ensures on in
     let w = placed.has k d here in
     caught k w.0 d (placed.listed k here) w.1 w.2))) c.catch_up.ensures.none
 

@@ -1,7 +1,7 @@
-use Rattle.std.proofs.Common.{ℕ, ◌≡◌, ◌/◌, ◌∷◌, ◌++◌, [], ◌∙◌, List, ap, arith, get_or, length, subst, sym}
-use Rattle.sv_mask.specs.Sets.{Has}
+use Rattle.std.proofs.Common.{ℕ, ◌≡◌, ◌/◌, ◌%◌, ◌∷◌, ◌++◌, [], ◌∙◌, List, ap, arith, get_or, length, subst, sym}
 use Rattle.sv_model.specs.declared.work.Group.{Group}
-use Rattle.sv_space.specs.Patterns.{HavePatterns}
+use Rattle.sv_space.specs.Patterns.{HavePatterns, Tells}
+use Rattle.sv_space.specs.declared.marks.Block.{Block}
 use Rattle.sv_space.proofs.Patterned.{patterns_grown, patterns_marked, patterns_more, patterns_numbered}
 use Rattle.sv_space.proofs.log.Log.push.Goals as goal
 
@@ -50,7 +50,8 @@ invariant_of-self-in-Continue-branch-5 c =
     patterns_numbered was.groups.items groups c.args.group.now patterns numbers c.push.new.self.items
     blocks number is c.in_ok-push.ensures.items (omega arith) c.in_ok-number.ensures.number
     (let r = c.in_ok-mark.ensures.room in omega (arith, r))
-    (subst (λ k. (e : ℕ) → Has (get_or blocks (k / 64) e) number) at c.in_ok-mark.ensures.marked)
+    (subst (λ k. (e : Block) → Tells (get_or blocks (k / 64) e) (k % 64) number) at
+    c.in_ok-mark.ensures.marked)
     (patterns_marked groups patterns numbers was.blocks.items blocks c.mark.ensures.kept c.mark.ensures.longer
     (patterns_grown was.groups.items groups c.args.group.now was.patterns.items patterns numbers
     was.blocks.items is c.number_of.ensures.more c.self.invariant))

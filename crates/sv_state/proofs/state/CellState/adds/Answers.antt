@@ -1,14 +1,27 @@
-use Rattle.std.proofs.Common.{inl, inr, subst, List}
+use Rattle.std.proofs.Common.{ℕ, ◌≡◌, ◌-◌, inl, inr, subst, List, take, drop, length, ap, ◌∙◌, arith}
+use Rattle.std.proofs.lemmas.List.{length-drop, take_all}
 use Rattle.std.proofs.lemmas.List.Elements.{Contains-append_cases}
 use Rattle.sv_state.specs.Outlines.{AreQuiet}
+use Rattle.sv_state.specs.States.{live_written}
 use Rattle.sv_state.specs.declared.entry.Entry.{Entry}
 use Rattle.sv_state.proofs.state.CellState.adds.Goals as goal
 
+-- the slice of the last entries is these
+rest : (seen items : List Entry) (from first : ℕ) → seen ≡ items → from ≡ first
+    → take (length seen - from) (drop from seen) ≡ drop first items
+rest seen items from first is here =
+    take_all (length seen - from) (drop from seen) (let l = length-drop from seen in omega (arith, l))
+    ∙ (ap (λ (es : List Entry). drop from es) is ∙ ap (λ (n : ℕ). drop n items) here)
+
 pub returns-else-some_add : goal.returns-else-some_add
 returns-else-some_add c = λ none e d on on_d.
-    let written = subst (λ (es : List Entry). AreQuiet es c.args.outlines.now) c.deref.ensures.value
+    let s = c.args.self.now in
+    let written : AreQuiet (live_written s) c.args.outlines.now =
+    subst (λ (es : List Entry). AreQuiet es c.args.outlines.now)
+    (rest c.as_slice-written.result.now s.written.items c.first_live-first.result _
+    c.as_slice-written.ensures.value c.first_live-first.ensures.place)
     (c.some_add.ensures c.if-some_add.false) in
-    let reads = subst (λ (es : List Entry). AreQuiet es c.args.outlines.now)
-    c.deref-else-some_add.ensures.value (c.some_add-else-some_add.ensures none) in
-    elim (Contains-append_cases c.args.self.now.written.items c.args.self.now.reads.items e on)
+    let reads = subst (λ (es : List Entry). AreQuiet es c.args.outlines.now) c.deref.ensures.value
+    (c.some_add-else-some_add.ensures none) in
+    elim (Contains-append_cases (live_written s) s.reads.items e on)
     [ inl first ↦ written e d first on_d | inr other ↦ reads e d other on_d ]

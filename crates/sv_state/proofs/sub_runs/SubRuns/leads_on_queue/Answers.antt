@@ -5,9 +5,9 @@ use Rattle.sv_state.proofs.Parts.{never}
 use Rattle.sv_state.proofs.sub_runs.SubRuns.leads_on_queue.Goals as goal
 
 pub returns-then-self-queue : goal.returns-then-self-queue
-returns-then-self-queue c = queue_test c.args.self.now c.args.d.now c.some_meets.result
+returns-then-self-queue c = queue_test c.args.self.now c.args.d.now c.meets.result
     (c.requires ∙ ap (λ (n : ℕ). Queue n) (sym c.if-self-queue.true))
-    (rw c.deref.ensures.value at c.some_meets.ensures)
+    c.meets.ensures
 
 pub returns-else-self-queue : goal.returns-else-self-queue
 returns-else-self-queue c = never (other_queue c.args.self.now c.args.d.now c.args.queue c.requires
