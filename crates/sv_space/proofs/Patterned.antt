@@ -18,14 +18,16 @@ use Rattle.std.proofs.Math.Nat.{div-lt_iff_lt-mul}
 use Rattle.sv_mask.specs.Sets.{Has}
 use Rattle.sv_model.specs.declared.work.Dep.{Dep}
 use Rattle.sv_model.specs.declared.work.Group.{Group}
-use Rattle.sv_state.specs.Outlines.{AddsNothing, AreQuiet, outline}
+use Rattle.sv_state.specs.Outlines.{AddsNothing, AreFull, AreQuiet, FullAreQuiet, outline}
 use Rattle.sv_state.specs.States.{live_of}
 use Rattle.sv_state.specs.declared.state.CellState.{CellState}
 use Rattle.sv_state.proofs.Unions.{Has-or, Has-or_left, Has-or_right}
+use Rattle.sv_space.specs.Patterns.{AreAsked, AreFullPatterns, IsFullPattern}
 use Rattle.sv_space.specs.Patterns.{AreMarked, AreMore, AreQuietFrom, AreQuietPatterns, HasOutlines}
 use Rattle.sv_space.specs.Patterns.{HasAll, HavePatterns, IsPatternOf, IsQuietPart, IsQuietPattern}
 use Rattle.sv_space.specs.Patterns.{KeepMarks, Tells, most}
 use Rattle.sv_space.specs.declared.marks.Block.{Block}
+use Rattle.sv_space.specs.declared.passing.Asked.{Asked}
 use Rattle.sv_space.specs.declared.pattern.Pattern.{Pattern}
 
 -- one dependency more whose outline is listed
@@ -342,20 +344,63 @@ quiet_groups state groups patterns numbers blocks from end have listed are j g l
     let within : j < length numbers = (let l = listed (omega (arith, le, lt)) in omega (arith, l, lt)) in
     quiet_group state groups patterns numbers blocks j 0 g have within (are j 0 le lt within)
 
--- no place is in a set of none
-pub quiet_none : (state : CellState) (patterns : List Pattern) → AreQuietPatterns state patterns 0
-quiet_none state patterns n has = absurd (let z = bit_at-zero n in omega (arith, has, z))
-
 -- one number more in the set
-pub quiet_with : (state : CellState) (patterns : List Pattern) (set n : ℕ) → IsQuietPattern state patterns n
-    → AreQuietPatterns state patterns set → AreQuietPatterns state patterns (bit_or set (2 ^ n))
-quiet_with state patterns set n quiet are m has = elim (Has-or set (2 ^ n) m has) [
+set_with : (Is : ℕ → Type 0) (known n : ℕ) → Is n → ((m : ℕ) → Has known m → Is m) → (m : ℕ)
+    → Has (bit_or known (2 ^ n)) m → Is m
+set_with Is known n one are m has = elim (Has-or known (2 ^ n) m has) [
   | inl old ↦ are m old
   | inr new ↦ elim (eqb_tells m n) [
-    | inl w ↦ subst (λ k. IsQuietPattern state patterns k) (sym w.1) quiet
+    | inl w ↦ subst (λ k. Is k) (sym w.1) one
     | inr w ↦ absurd (let z = bit_at-pow_other n m w.1 in omega (arith, new, z))
   ]
 ]
+
+pub quiet_with : (state : CellState) (patterns : List Pattern) (known new n : ℕ)
+    → new ≡ bit_or known (2 ^ n) → IsQuietPattern state patterns n → AreQuietPatterns state patterns known
+    → AreQuietPatterns state patterns new
+quiet_with state patterns known new n is quiet are m has = set_with (λ k. IsQuietPattern state patterns k)
+    known n quiet are m (subst (λ (set : ℕ). Has set m) is has)
+
+pub full_with : (state : CellState) (patterns : List Pattern) (known new n : ℕ)
+    → new ≡ bit_or known (2 ^ n) → IsFullPattern state patterns n → AreFullPatterns state patterns known
+    → AreFullPatterns state patterns new
+full_with state patterns known new n is full are m has = set_with (λ k. IsFullPattern state patterns k)
+    known n full are m (subst (λ (set : ℕ). Has set m) is has)
+
+-- no pattern is in a set of none
+pub full_none : (state : CellState) (patterns : List Pattern) → AreFullPatterns state patterns 0
+full_none state patterns n has = absurd (let z = bit_at-zero n in omega (arith, has, z))
+
+-- what is full adds nothing
+pub full_quiet : (state : CellState) (patterns : List Pattern) (n : ℕ) → FullAreQuiet
+    → IsFullPattern state patterns n → IsQuietPattern state patterns n
+full_quiet state patterns n law full = record {
+  pattern = full.pattern;
+  small = full.small;
+  here = full.here;
+  quiet = law (live_of state) full.pattern.outlines.items full.full;
+}
+
+-- nothing was asked for but what is known to be full
+pub asked_full : (state : CellState) (patterns : List Pattern) (asked : Asked) (known : ℕ) → FullAreQuiet
+    → asked.quiet ≡ known → asked.full ≡ known → AreFullPatterns state patterns known
+    → AreAsked state patterns asked
+asked_full state patterns asked known law quiet_is full_is are = record {
+  quiet = λ n has. full_quiet state patterns n law (are n (subst (λ set. Has set n) quiet_is has));
+  full = λ n has. are n (subst (λ set. Has set n) full_is has);
+}
+
+-- a state that lost nothing
+pub full_kept : (old new : CellState) (patterns : List Pattern) (known : ℕ)
+    → ((outlines : List Dep) → AreFull (live_of old) outlines → AreFull (live_of new) outlines)
+    → AreFullPatterns old patterns known → AreFullPatterns new patterns known
+full_kept old new patterns known keeps are n has =
+    let was = are n has in record {
+      pattern = was.pattern;
+      small = was.small;
+      here = was.here;
+      full = keeps was.pattern.outlines.items was.full;
+    }
 
 -- a part of a block
 in_part : (place j b : ℕ) → b ≡ place / 64 → place ≤ j → place % 64 + (j - place) < 64 → (j / 64 ≡ b)
@@ -404,6 +449,17 @@ quiet_asked state patterns n p outlines small at is quiet = record {
   small = small;
   here = sym at;
   quiet = subst (λ (ds : List Dep). AreQuiet (live_of state) ds) is quiet;
+}
+
+-- a pattern of which the state is found to hold all
+pub full_asked : (state : CellState) (patterns : List Pattern) (n : ℕ) (p : Pattern) (outlines : List Dep)
+    → n < most → p ≡ get_or patterns n p → outlines ≡ p.outlines.items
+    → AreFull (live_of state) outlines → IsFullPattern state patterns n
+full_asked state patterns n p outlines small at is full = record {
+  pattern = p;
+  small = small;
+  here = sym at;
+  full = subst (λ (ds : List Dep). AreFull (live_of state) ds) is full;
 }
 
 -- some places, and then others

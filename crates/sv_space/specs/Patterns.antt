@@ -3,10 +3,11 @@ use Rattle.std.specs.Prelude.{ℕ, ◌≡◌, ◌<◌, ◌≤◌, ◌+◌, ◌*�
 use Rattle.sv_mask.specs.Sets.{Has, Includes}
 use Rattle.sv_model.specs.declared.work.Dep.{Dep}
 use Rattle.sv_model.specs.declared.work.Group.{Group}
-use Rattle.sv_state.specs.Outlines.{AreQuiet, outline}
+use Rattle.sv_state.specs.Outlines.{AreFull, AreQuiet, outline}
 use Rattle.sv_state.specs.States.{live_of}
 use Rattle.sv_state.specs.declared.state.CellState.{CellState}
 use Rattle.sv_space.specs.declared.marks.Block.{Block}
+use Rattle.sv_space.specs.declared.passing.Asked.{Asked}
 use Rattle.sv_space.specs.declared.pattern.Pattern.{Pattern}
 
 -- so many patterns have numbers at most
@@ -67,6 +68,22 @@ pub record IsQuietPattern (state : CellState) (patterns : List Pattern) (number 
 -- so it is with each number of a set
 abbrev pub AreQuietPatterns : CellState → List Pattern → ℕ → Type 0
 AreQuietPatterns state patterns set = (n : ℕ) → Has set n → IsQuietPattern state patterns n
+
+-- the number is that of a pattern of which the state holds all that its groups may give
+pub record IsFullPattern (state : CellState) (patterns : List Pattern) (number : ℕ) : Type 0 where
+  pub pattern : Pattern
+  pub small : number < most
+  pub here : slice_index_or patterns number pattern ≡ pattern
+  pub full : AreFull (live_of state) pattern.outlines.items
+
+-- so it is with each number of a set
+abbrev pub AreFullPatterns : CellState → List Pattern → ℕ → Type 0
+AreFullPatterns state patterns set = (n : ℕ) → Has set n → IsFullPattern state patterns n
+
+-- what was found of the patterns that were asked for is so
+pub record AreAsked (state : CellState) (patterns : List Pattern) (asked : Asked) : Type 0 where
+  pub quiet : AreQuietPatterns state patterns asked.quiet
+  pub full : AreFullPatterns state patterns asked.full
 
 -- so many places of a block, from this one on, have patterns, and the patterns of the block are in the set
 pub record IsQuietPart (spot count : ℕ) (block : Block) (set : ℕ) : Type 0 where

@@ -101,7 +101,7 @@ impl Known {
         ensures given { IfOk result (λ given. given + self.old.upto ≡ length log.now) }
     {
         let given = log.len() as u64 - self.upto;
-        go_through(&mut self.state, log, self.upto as usize, at)?;
+        log.catch_up(&mut self.state, self.upto as usize, at)?;
         self.upto = log.len() as u64;
         Ok(given)
     }
@@ -121,60 +121,6 @@ impl Known {
             self.new.state) }
     {
         record_on(alloc, &mut self.state, cell, accesses, groups)
-    }
-}
-
-// Gives the state the groups from that number on, on one cell.
-fn go_through(state: &mut CellState, log: &Log, from: usize, at: &Area) -> Result<(), AllocError>
-    requires { from ≤ length log.now }
-    ensures { OnOk result ((cell : Cell) → IsOnly at.now cell → MayFollow state.old.step (drop from log.now)
-        → HasGone cell (drop from log.now) (contents_of state.old) (contents_of state.new)) }
-{
-    let mut done = from;
-    while done < log.len() {
-        let next = go_on(state, log, done, at)?;
-        done = next;
-    }
-    Ok(())
-}
-
-// The number of the next group, from that one on, that the state has to be given: those before add nothing
-// to it.
-fn next_of(state: &CellState, log: &Log, from: usize) -> usize
-    requires { from < length log.now }
-    ensures first { from ≤ result }
-    ensures listed { result ≤ length log.now }
-    ensures passed { (number : ℕ) (d : Group) → from ≤ number → number < result
-        → AddsNothing state.now (slice_index_or log.now number d) }
-    ensures late { (d : Group) (e : Entry) → from < result → Contains (entries_of state.now) e
-        → e.access.step < (slice_index_or log.now from d).step }
-{
-    if log.group(from).step <= state.newest() {
-        from
-    } else {
-        log.next_adding(state, from)
-    }
-}
-
-// Gives the state the next group that may add to it, and passes over those before. Tells how many groups were
-// given so far.
-fn go_on(state: &mut CellState, log: &Log, done: usize, at: &Area) -> Result<usize, AllocError>
-    requires { done < length log.now }
-    ensures further { IfOk result (λ next. (done < next) × (next ≤ length log.now)) }
-    ensures gone { IfOk result (λ next. (cell : Cell) → IsOnly at.now cell
-        → MayFollow state.old.step (drop done log.now)
-        → HasGone cell (take (next - done) (drop done log.now)) (contents_of state.old)
-        (contents_of state.new)) }
-{
-    let next = next_of(state, log, done);
-    if next < log.len() {
-        let group = log.group(next);
-        state.come_to(group.step)?;
-        state.extend(group, at)?;
-        Ok(next + 1)
-    } else {
-        state.come_to(log.group(next - 1).step)?;
-        Ok(next)
     }
 }
 

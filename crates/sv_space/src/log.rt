@@ -1,16 +1,19 @@
 //! The groups of the work, which pieces go through late.
-ghost use Rattle.std.specs.Prelude.{◌≡◌, ◌∷◌, ◌++◌, ◌<◌, ◌≤◌, [], ℕ, IfOk, OnErr, OnOk, length};
+ghost use Rattle.std.specs.Prelude.{◌≡◌, ◌∷◌, ◌++◌, ◌<◌, ◌≤◌, [], ℕ, IfOk, OnErr, OnOk, drop, length};
 ghost use Rattle.std.specs.Prelude.{slice_index_or};
+ghost use Rattle.sv_model.specs.Cells.{IsOnly};
+ghost use Rattle.sv_model.specs.declared.work.Cell.{Cell};
 ghost use Rattle.sv_model.specs.declared.work.Group.{Group};
-ghost use Rattle.sv_state.specs.Outlines.{AddsNothing};
+ghost use Rattle.sv_state.specs.Contents.{contents_of};
+ghost use Rattle.sv_space.specs.Known.{HasGone, MayFollow};
 
+use crate::going::go_through;
 use crate::marks::{Block, mark};
-use crate::passing::next_in;
 use crate::pattern::{Pattern, number_of};
 use std::alloc::{AllocError, Global};
 use std::marker::Model;
-use sv_model::work::Group;
-use sv_range::List;
+use sv_model::work::{Area, Group};
+use sv_range::Duplicate;
 use sv_state::CellState;
 
 /// The groups of the work, in order, which contracts see. By the numbers of their patterns a state passes
@@ -70,7 +73,7 @@ impl Log {
         ensures longer { length self.old ≤ length self.new }
     {
         let number = number_of(alloc, &mut self.patterns, group)?;
-        let copied = copy_group(alloc, group)?;
+        let copied = group.copy()?;
         keep(&mut self.groups, copied)?;
         // Where a number was lost for want of memory, the later ones would be of other groups.
         if self.numbers.len() + 1 == self.groups.len() {
@@ -80,16 +83,22 @@ impl Log {
         Ok(())
     }
 
-    /// The number of the next group, from that one on, that may add to the state; the number of groups where
-    /// none does.
-    pub fn next_adding(&self, state: &CellState, from: usize) -> usize
+    /// Gives the state the groups from that number on, on one cell.
+    pub fn catch_up(&self, state: &mut CellState, from: usize, at: &Area) -> Result<(), AllocError>
         requires { from ≤ length self.now }
-        ensures first { from ≤ result }
-        ensures listed { result ≤ length self.now }
-        ensures passed { (number : ℕ) (d : Group) → from ≤ number → number < result
-            → AddsNothing state.now (slice_index_or self.now number d) }
+        ensures { OnOk result ((cell : Cell) → IsOnly at.now cell
+            → MayFollow state.old.step (drop from self.now)
+            → HasGone cell (drop from self.now) (contents_of state.old) (contents_of state.new)) }
     {
-        next_in(state, &self.patterns, &self.numbers, &self.blocks, from)
+        go_through(
+            &self.groups,
+            &self.patterns,
+            &self.numbers,
+            &self.blocks,
+            state,
+            from,
+            at,
+        )
     }
 }
 
@@ -103,24 +112,4 @@ fn keep(groups: &mut Vec<Group>, group: Group) -> Result<(), AllocError>
     }
     groups.push(group)?;
     Ok(())
-}
-
-fn copy_list<T: Copy>(alloc: Global, list: &List<T>) -> Result<List<T>, AllocError>
-    ensures { IfOk result (λ copied. copied ≡ list.now) }
-{
-    Ok(List::from_vec(Vec::from_slice(alloc, list.as_slice())?))
-}
-
-/// A group that is equal to this one.
-pub fn copy_group(alloc: Global, group: &Group) -> Result<Group, AllocError>
-    ensures { IfOk result (λ copied. copied ≡ group.now) }
-{
-    Ok(Group {
-        step: group.step,
-        place: group.place,
-        deps: copy_list(alloc, &group.deps)?,
-        transitions: copy_list(alloc, &group.transitions)?,
-        olds: copy_list(alloc, &group.olds)?,
-        transfer: group.transfer,
-    })
 }

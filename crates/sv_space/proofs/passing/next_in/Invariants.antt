@@ -1,12 +1,12 @@
 use Rattle.std.proofs.Common.{◌≤◌, ◌-◌, length}
-use Rattle.sv_space.specs.Patterns.{AreQuietFrom, AreQuietPatterns}
+use Rattle.sv_space.specs.Patterns.{AreAsked, AreQuietFrom}
 use Rattle.sv_space.proofs.passing.next_in.Given as goal
 
 -- the numbers from the first up to this place are of patterns of which nothing is added
 abbrev pub invariant-loop-place : goal.invariant-loop-place
 invariant-loop-place l = record {
   first : l.from ≤ l.place;
-  known : AreQuietPatterns l.state l.patterns.items l.asked.quiet;
+  known : AreAsked l.state l.patterns.items l.asked;
   passed : AreQuietFrom l.from l.place l.state l.patterns.items l.numbers.items;
 }
 
