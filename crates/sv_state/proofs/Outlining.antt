@@ -14,7 +14,8 @@ use Rattle.sv_model.specs.declared.work.Track.{Track}
 use Rattle.sv_model.specs.declared.work.Track.TheVariants.{Queue, Sub, Token}
 use Rattle.sv_model.specs.declared.work.What.TheVariants.{Use, Transition}
 use Rattle.sv_mask.specs.declared.usage.Usage.{Usage}
-use Rattle.sv_state.specs.Masks.{Mark, stage, usage, Marked, Gives, Holds, IsMaskOf, LeadsInto, Stands}
+use Rattle.sv_state.specs.Masks.{Mark, stage, usage, Marked, Gives, Holds, IsHeld, IsMaskOf}
+use Rattle.sv_state.specs.Masks.{LeadsInto, Stands}
 use Rattle.sv_state.specs.Outlines.{IsSaturated, loose, outline}
 use Rattle.sv_state.specs.Numbers.{masks_of, on_token, runs_masks, subs_masks}
 use Rattle.sv_state.specs.declared.mask.Mask.{Mask}
@@ -104,15 +105,21 @@ module _ (cell : Cell) (a : Access) (d : Dep) (n : Placed) (is : d ≡ outline n
   ]
 
   -- where what the outline gives is held, n adds nothing
-  pub quiet_held : (deps : List Placed) (step : ℕ) (r : Reached) (m : Mask) → IsMaskOf cell d m
-      → ((k : Mark) → Marked m k → Holds (masks_of r.settled) m.track k ⊎ Holds r.fresh.items m.track k)
-      → Stands cell a deps step r → IsSaturated deps cell a n
-  quiet_held deps step r m of holds st enters k gives =
-      let to : m.track ≡ n.dep.to = of.track ∙ ap (λ (e : Dep). e.to) is in
-      elim (holds k (of.all k (subst (λ (e : Dep). Gives cell e k) (sym is)
-      (outline_gives cell n.dep k gives)))) [
-        | inl h ↦ (let w = st.settled.only m.track k h in
+  pub quiet_given : (deps : List Placed) (step : ℕ) (r : Reached)
+      → ((k : Mark) → Gives cell d k → IsHeld r d.to k) → Stands cell a deps step r
+      → IsSaturated deps cell a n
+  quiet_given deps step r given st enters k gives =
+      let to : d.to ≡ n.dep.to = ap (λ (e : Dep). e.to) is in
+      elim (given k (subst (λ (e : Dep). Gives cell e k) (sym is) (outline_gives cell n.dep k gives))) [
+        | inl h ↦ (let w = st.settled.only d.to k h in
             (w.0, record { path = w.1.path; when = tt; track = w.1.track ∙ to; gives = w.1.gives }))
-        | inr h ↦ (let w = st.fresh.only m.track k h in
+        | inr h ↦ (let w = st.fresh.only d.to k h in
             (w.0, record { path = w.1.path; when = tt; track = w.1.track ∙ to; gives = w.1.gives }))
       ]
+
+  -- the same where its mask is
+  pub quiet_held : (deps : List Placed) (step : ℕ) (r : Reached) (m : Mask) → IsMaskOf cell d m
+      → ((k : Mark) → Marked m k → IsHeld r m.track k) → Stands cell a deps step r
+      → IsSaturated deps cell a n
+  quiet_held deps step r m of holds = quiet_given deps step r
+      (λ k gives. subst (λ t. IsHeld r t k) of.track (holds k (of.all k gives)))

@@ -40,7 +40,7 @@ module _ (R : Entry → Entry → Type 0) (same : (e f : Entry) → R e f → f.
         subst (λ (y : Entry). R y (get_or new k e)) is (all.each k e lt),
       )
 
-  to_old : (f : Entry) → Contains new f → (e : Entry) × Contains old e × R e f
+  pub to_old : (f : Entry) → Contains new f → (e : Entry) × Contains old e × R e f
   to_old f (k, lt, is) =
       let within : k < length old = (let l = all.long in omega arith) in (
         get_or old k f,
@@ -77,7 +77,7 @@ module _ (R : Entry → Entry → Type 0) (same : (e f : Entry) → R e f → f.
       (goes e.0 f e.2 (each e.0 e.1))
 
 -- two lists of entries that changed so
-changed_both : (R : Entry → Entry → Type 0) (olds news more after : List Entry) → AllChanged R olds news
+pub changed_both : (R : Entry → Entry → Type 0) (olds news more after : List Entry) → AllChanged R olds news
     → AllChanged R more after → AllChanged R (olds ++ more) (news ++ after)
 changed_both R olds news more after first second = record {
   long = (let l = first.long in let m = second.long in let p = length-append olds more in let q =

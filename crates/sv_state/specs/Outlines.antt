@@ -8,7 +8,7 @@ use Rattle.sv_model.specs.declared.work.Dep.{Dep}
 use Rattle.sv_model.specs.declared.work.Group.{Group}
 use Rattle.sv_model.specs.declared.work.Track.{Track}
 use Rattle.sv_model.specs.declared.work.Track.TheVariants.{Queue, Sub, Token}
-use Rattle.sv_state.specs.Masks.{Mark, Gives, Reaches, Stands}
+use Rattle.sv_state.specs.Masks.{IsHeld, Mark, Gives, Reaches, Stands}
 use Rattle.sv_state.specs.States.{live_of}
 use Rattle.sv_state.specs.declared.entry.Entry.{Entry}
 use Rattle.sv_state.specs.declared.reached.Reached.{Reached}
@@ -50,6 +50,20 @@ IsQuiet a r d = (cell : Cell) (deps : List Placed) (step : ℕ) (n : Placed) →
 abbrev pub AreQuiet : List Entry → List Dep → Type 0
 AreQuiet entries outlines = (e : Entry) (d : Dep) → Contains entries e → Contains outlines d
     → IsQuiet e.access e.reached d
+
+-- all that a dependency of this outline may give is reached
+abbrev pub IsFull : Reached → Dep → Type 0
+IsFull r d = (cell : Cell) (k : Mark) → Gives cell d k → IsHeld r d.to k
+
+-- so it is for each entry, with dependencies of these outlines
+abbrev pub AreFull : List Entry → List Dep → Type 0
+AreFull entries outlines = (e : Entry) (d : Dep) → Contains entries e → Contains outlines d
+    → IsFull e.reached d
+
+-- where all that the outlines may give is reached, nothing is added
+abbrev pub FullAreQuiet : Type 0
+FullAreQuiet = (entries : List Entry) (outlines : List Dep) → AreFull entries outlines
+    → AreQuiet entries outlines
 
 -- none of the accesses is of a later step
 abbrev pub AreUpTo : ℕ → List Entry → Type 0

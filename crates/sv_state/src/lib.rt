@@ -9,6 +9,7 @@ mod copying;
 mod entry;
 mod keeping;
 mod key;
+mod laws;
 mod mask;
 mod outlines;
 mod reached;
@@ -21,5 +22,6 @@ mod subs;
 #[cfg(test)]
 mod tests;
 
+pub use laws::full_are_quiet;
 pub use outlines::outline;
 pub use state::CellState;

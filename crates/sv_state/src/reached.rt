@@ -9,8 +9,8 @@ ghost use Rattle.sv_model.specs.Dependencies as chain;
 ghost use Rattle.sv_model.specs.declared.work.Access.{Access};
 ghost use Rattle.sv_model.specs.declared.work.Cell.{Cell};
 ghost use Rattle.sv_model.specs.declared.work.What.{What};
-ghost use Rattle.sv_state.specs.Masks.{Holds, LeadsInto, Mark, Marked, Stands};
-ghost use Rattle.sv_state.specs.Outlines.{IsQuiet, outline};
+ghost use Rattle.sv_state.specs.Masks.{IsHeld, KeepsHeld, LeadsInto, Mark, Marked, Stands};
+ghost use Rattle.sv_state.specs.Outlines.{IsFull, IsQuiet, outline};
 ghost use Rattle.sv_state.specs.Numbers.{masks_of};
 
 use crate::mask::{Mask, Masks, add, cover, is_on, leads_into, marked_on, mask_of, within};
@@ -138,8 +138,9 @@ impl Reached {
 
     /// A later step begins: what was reached is of earlier steps.
     pub fn advance(&mut self) -> Result<(), AllocError>
-        ensures { OnOk result ((cell : Cell) (a : Access) (deps : List Placed) (step next : ℕ) → step < next
-            → Stands cell a deps step self.old → Stands cell a deps next self.new) }
+        ensures stands { OnOk result ((cell : Cell) (a : Access) (deps : List Placed) (step next : ℕ)
+            → step < next → Stands cell a deps step self.old → Stands cell a deps next self.new) }
+        ensures keeps { OnOk result (KeepsHeld self.old self.new) }
     {
         self.settled.add_all(&self.fresh)?;
         self.fresh.clear();
@@ -159,10 +160,11 @@ impl Reached {
 
     /// Goes through one dependency of a group of the present step.
     fn take_dep(&mut self, a: &Access, group: &Group, d: &Dep, held: bool) -> Result<(), AllocError>
-        ensures { OnOk result ((cell : Cell) → IsTrue held ↔ Within d.now.range cell → (deps : List Placed)
-            → Stands cell a.now deps group.now.step self.old
+        ensures stands { OnOk result ((cell : Cell) → IsTrue held ↔ Within d.now.range cell
+            → (deps : List Placed) → Stands cell a.now deps group.now.step self.old
             → Stands cell a.now (deps ++ record { group = group.now; dep = d.now } ∷ []) group.now.step
             self.new) }
+        ensures keeps { OnOk result (KeepsHeld self.old self.new) }
     {
         if self.enters(a, group, d, held) {
             add(&mut self.fresh, mask_of(d, held))?;
@@ -172,9 +174,10 @@ impl Reached {
 
     /// Goes through the dependencies of a group of the present step, on a cell.
     pub fn extend(&mut self, a: &Access, group: &Group, at: Cell) -> Result<(), AllocError>
-        ensures { OnOk result ((cell : Cell) → AllAlike group.now at cell → (deps : List Placed)
+        ensures stands { OnOk result ((cell : Cell) → AllAlike group.now at cell → (deps : List Placed)
             → Stands cell a.now deps group.now.step self.old
             → Stands cell a.now (deps ++ placed group.now) group.now.step self.new) }
+        ensures keeps { OnOk result (KeepsHeld self.old self.new) }
     {
         for d in group.deps.as_slice() {
             let held = within(d.range, at);
@@ -238,8 +241,7 @@ impl Reached {
 
     /// Whether all that the mask has is reached.
     fn cover(&self, m: Mask) -> bool
-        ensures { result ≡ true → (k : Mark) → Marked m k → Holds (masks_of self.now.settled) m.track k
-            ⊎ Holds self.now.fresh.items m.track k }
+        ensures { result ≡ true → (k : Mark) → Marked m k → IsHeld self.now m.track k }
     {
         self.settled.cover(m) || cover(&self.fresh, m)
     }
@@ -249,5 +251,15 @@ impl Reached {
         ensures { result ≡ false → IsQuiet a.now self.now d.now }
     {
         !self.cover(mask_of(d, true)) && self.may_enter(a, d)
+    }
+
+    /// Whether all that a dependency of this outline may give is reached. What has a range is no outline.
+    pub fn is_full(&self, d: &Dep) -> bool
+        ensures { result ≡ true → IsFull self.now d.now }
+    {
+        match d.range {
+            None => self.cover(mask_of(d, true)),
+            Some(_) => false,
+        }
     }
 }

@@ -9,10 +9,11 @@ ghost use Rattle.sv_model.specs.Order.{Story, IsClear, IsPartner, NoRaces, IsBel
 ghost use Rattle.sv_model.specs.Order.{kind_of};
 ghost use Rattle.sv_model.specs.declared.work.Access.{Access};
 ghost use Rattle.sv_model.specs.declared.work.Cell.{Cell};
+ghost use Rattle.sv_model.specs.declared.work.Dep.{Dep};
 
 use crate::copying::copies_of;
 use crate::entry::{
-    Entry, advance_from, extend_from, last_racing, last_racing_alike, newest_of, some_add,
+    Entry, advance_from, all_full, extend_from, last_racing, last_racing_alike, newest_of, some_add,
 };
 use crate::keeping::{all_alike, entries_of, last_of_keys, some_writes, take_place};
 use std::alloc::{AllocError, Global};
@@ -55,7 +56,7 @@ impl CellState {
     ghost use Rattle.sv_state.specs.States.{IsLastUndirected};
     ghost use Rattle.sv_state.specs.States as spec;
     ghost use Rattle.sv_state.specs.Contents.{contents_of};
-    ghost use Rattle.sv_state.specs.Outlines.{ArePassed, AreQuiet, AreUpTo};
+    ghost use Rattle.sv_state.specs.Outlines.{AreFull, ArePassed, AreQuiet, AreUpTo};
 
     /// The state of a cell before any work. It takes no memory.
     pub fn new(alloc: Global) -> CellState
@@ -239,6 +240,16 @@ impl CellState {
         some_add(&written[first..], outlines) || some_add(&self.reads, outlines)
     }
 
+    /// Whether all that dependencies of these outlines may give is reached from each access. Then they add
+    /// nothing, now and later.
+    pub fn is_full(&self, outlines: &[Dep]) -> bool
+        ensures { result ≡ true → AreFull (spec.live_of self.now) outlines.now }
+    {
+        let first = self.first_live();
+        let written = self.written.as_slice();
+        all_full(&written[first..], outlines) && all_full(&self.reads, outlines)
+    }
+
     /// A later step begins. Dependencies that add nothing may be passed over up to there. Where memory is
     /// missing the state is only to be dropped.
     pub fn come_to(&mut self, step: u64) -> Result<(), AllocError>
@@ -246,6 +257,8 @@ impl CellState {
         ensures passes { OnOk result (self.old.step ≤ step
             → (story : Story) (epoch : ℕ) (more : List Placed) → StandsFor story epoch self.old
             → ArePassed story step self.old more → StandsFor (extended story more) epoch self.new) }
+        ensures keeps { OnOk result ((outlines : List Dep) → AreFull (spec.live_of self.old) outlines
+            → AreFull (spec.live_of self.new) outlines) }
     {
         if self.step < step {
             let first = self.first_live();
@@ -259,8 +272,10 @@ impl CellState {
     /// Goes through the dependencies of a group on one cell. Where memory is missing the state is
     /// only to be dropped.
     pub fn extend(&mut self, group: &Group, at: &Area) -> Result<(), AllocError>
-        ensures { OnOk result ((cell : Cell) → IsOnly at.now cell → self.old.step ≤ group.now.step
+        ensures grows { OnOk result ((cell : Cell) → IsOnly at.now cell → self.old.step ≤ group.now.step
             → HasGrown cell group.now self.old self.new) }
+        ensures keeps { OnOk result ((outlines : List Dep) → AreFull (spec.live_of self.old) outlines
+            → AreFull (spec.live_of self.new) outlines) }
     {
         self.come_to(group.step)?;
         let cell = cell_of(at);

@@ -1,17 +1,10 @@
-use Rattle.std.proofs.Common.{ℕ, ◌≡◌, ◌-◌, inl, inr, subst, List, take, drop, length, ap, ◌∙◌, arith}
-use Rattle.std.proofs.lemmas.List.{length-drop, take_all}
+use Rattle.std.proofs.Common.{inl, inr, subst, List}
 use Rattle.std.proofs.lemmas.List.Elements.{Contains-append_cases}
 use Rattle.sv_state.specs.Outlines.{AreQuiet}
 use Rattle.sv_state.specs.States.{live_written}
 use Rattle.sv_state.specs.declared.entry.Entry.{Entry}
+use Rattle.sv_state.proofs.Changes.{rest}
 use Rattle.sv_state.proofs.state.CellState.adds.Goals as goal
-
--- the slice of the last entries is these
-rest : (seen items : List Entry) (from first : ℕ) → seen ≡ items → from ≡ first
-    → take (length seen - from) (drop from seen) ≡ drop first items
-rest seen items from first is here =
-    take_all (length seen - from) (drop from seen) (let l = length-drop from seen in omega (arith, l))
-    ∙ (ap (λ (es : List Entry). drop from es) is ∙ ap (λ (n : ℕ). drop n items) here)
 
 pub returns-else-some_add : goal.returns-else-some_add
 returns-else-some_add c = λ none e d on on_d.

@@ -1,6 +1,7 @@
 use Rattle.std.proofs.Common.{arith, refl, subst, take, drop, length, ◌++◌}
 use Rattle.sv_state.specs.States.{AreChangedFrom, HasAdvanced}
 use Rattle.sv_state.proofs.Changes.{changed_whole}
+use Rattle.sv_state.proofs.Fullness.{live_full}
 use Rattle.sv_state.proofs.Quiet.{advanced_over, come_there, state_over}
 use Rattle.sv_state.proofs.StateLaws.{state_advanced}
 use Rattle.sv_state.proofs.state.CellState.come_to.Goals as goal
@@ -21,6 +22,8 @@ returns-in_ok-advance_from-2 c =
     record {
       comes = λ le. state_advanced old _ c.if-self-step.true refl first second;
       passes = λ le. advanced_over old _ c.if-self-step.true refl first second;
+      keeps = live_full HasAdvanced (λ e f h. h.access) (λ e f h. h.keeps) old.alike old.written.items
+          old.reads.items _ _ first second;
     }
 
 pub returns-else-self-step-clause-passes : goal.returns-else-self-step-clause-passes
