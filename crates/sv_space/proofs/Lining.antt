@@ -149,8 +149,8 @@ caught_more groups places i index lt is old new others now was j e d j_lt =
       | inl here ↦ subst (λ (n : ℕ). (get_or new n d).value.upto ≡ groups) (sym here) (now d)
       | inr ne ↦ ap (λ (p : Part Known). p.value.upto) (others (get_or places j e) d ne)
           ∙ was j e d (elim (same_or_other j i) [
-            | inl same ↦ absurd (ne (ap (λ (n : ℕ). get_or places n e) same ∙ get_or_default places i e index lt
-                ∙ is))
+            | inl same ↦ absurd (ne (ap (λ (n : ℕ). get_or places n e) same ∙ get_or_default places i e index
+                lt ∙ is))
             | inr other ↦ less j i j_lt other
           ])
     ]

@@ -216,7 +216,8 @@ clear_below known from rest count k small is below few le lt has =
 
 -- more patterns
 pub patterns_more : (groups : List Group) (old new : List Pattern) (numbers : List ℕ)
-    (blocks : List Block) → AreMore old new → HavePatterns groups old numbers blocks → HavePatterns groups new numbers blocks
+    (blocks : List Block) → AreMore old new → HavePatterns groups old numbers blocks
+    → HavePatterns groups new numbers blocks
 patterns_more groups old new numbers blocks more have = record {
   short = have.short;
   each = λ j d g lt. (
@@ -231,7 +232,8 @@ patterns_more groups old new numbers blocks more have = record {
 
 -- one group more, without a number
 pub patterns_group : (groups : List Group) (h : Group) (patterns : List Pattern) (numbers : List ℕ)
-    (blocks : List Block) → HavePatterns groups patterns numbers blocks → HavePatterns (groups ++ h ∷ []) patterns numbers blocks
+    (blocks : List Block) → HavePatterns groups patterns numbers blocks
+    → HavePatterns (groups ++ h ∷ []) patterns numbers blocks
 patterns_group groups h patterns numbers blocks have = record {
   short = (let s = have.short in let l = length-append groups (h ∷ []) in omega (arith, s, l));
   each = λ j d g lt. subst (λ (f : Group). IsPatternOf patterns (get_or numbers j d) f.deps)
@@ -280,7 +282,8 @@ patterns_marked groups patterns numbers old new kept long have =
 
 -- one number more, of the last group
 pub patterns_number : (groups : List Group) (h : Group) (patterns : List Pattern) (numbers : List ℕ)
-    (blocks : List Block) (n : ℕ) → length numbers ≡ length groups → IsPatternOf patterns n h.deps → length numbers
+    (blocks : List Block) (n : ℕ) → length numbers ≡ length groups → IsPatternOf patterns n h.deps
+    → length numbers
     < 64 * length blocks
     → ((e : Block) → Tells (get_or blocks (length numbers / 64) e) (length numbers % 64) n)
     → HavePatterns (groups ++ h ∷ []) patterns numbers blocks
@@ -328,7 +331,8 @@ patterns_numbered groups all h patterns numbers more blocks n is_all is_more eve
 
 -- a group of a pattern of which nothing is added
 pub quiet_group : (state : CellState) (groups : List Group) (patterns : List Pattern)
-    (numbers : List ℕ) (blocks : List Block) (j d : ℕ) (g : Group) → HavePatterns groups patterns numbers blocks → j
+    (numbers : List ℕ) (blocks : List Block) (j d : ℕ) (g : Group)
+    → HavePatterns groups patterns numbers blocks → j
     < length numbers → IsQuietPattern state patterns (get_or numbers j d)
     → AddsNothing state (get_or groups j g)
 quiet_group state groups patterns numbers blocks j d g have lt quiet e f on_e on_f =

@@ -132,7 +132,8 @@ module _ (work : List Step) (steps : AreInOrder work) (step : Step) (next : IsNe
               at = (let e = here r.0 (r.1) (let h = r.2 in omega (arith, h, order)) in omega (arith, e));
               reported = partner_reported work steps step next (cell_on res s r.0)
                   (known.each (cell_on res s r.0) (of r.0 r.1 (let h = r.2 in omega (arith, h, order)))).epoch
-                  (known.each (cell_on res s r.0) (of r.0 r.1 (let h = r.2 in omega (arith, h, order)))).current x
+                  (known.each (cell_on res s r.0) (of r.0 r.1 (let h = r.2 in omega (arith, h, order)))).current
+                  x
                   (on (cell_on res s r.0) (of r.0 r.1 (let h = r.2 in omega (arith, h, order)))) a kind
                   (partner (cell_on res s r.0) (of r.0 r.1 (let h = r.2 in omega (arith, h, order))))
                   (kind_at (cell_on res s r.0) (of r.0 r.1 (let h = r.2 in omega (arith, h, order))));
@@ -152,7 +153,8 @@ module _ (work : List Step) (steps : AreInOrder work) (step : Step) (next : IsNe
             let same : spot h.number ≡ t = ap (λ (p : Cell × (Access × (Access × Kind))). record
             { cell = p.0; later = p.1.0; earlier = p.1.1.0; kind = p.1.1.1 })
             (pairs t h is other.0 other.1) in
-            subst (λ (u : Spot). Contains (map spot (range_with_len span.start (span.end - span.start))) u) same
+            subst (λ (u : Spot). Contains (map spot (range_with_len span.start (span.end - span.start))) u)
+            same
             (from_range spot span.start (span.end - span.start) h.number h.inside.from
             (let b = h.inside.before in omega (arith, b, order))));
         in_order = ordered (span.end - span.start) span.start (omega arith) (omega (arith, order));

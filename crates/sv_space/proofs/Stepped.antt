@@ -208,7 +208,8 @@ module _ (accesses : List Access) (groups : List Group) (res : ℕ) (s : Shape) 
       done = λ work step is caught uniform of y on covered. elim
           (busy_or_free (take n accesses) res s (get_or parts k d).span.start) [
             | inl busy ↦ subst (λ (p : Part Known). IsPieceOf (work ++ step ∷ []) res s p)
-                (sym (mark.busy busy.0 busy.1 (subst (λ (m : ℕ). Covers busy.0.area res s m) (sym start) busy.2)))
+                (sym (mark.busy busy.0 busy.1 (subst (λ (m : ℕ). Covers busy.0.area res s m) (sym start)
+                busy.2)))
                 (was.done work step is caught uniform of busy.0 busy.1 busy.2)
             | inr free ↦ (
                 let same : mid ≡ get_or parts k d = was.left free in

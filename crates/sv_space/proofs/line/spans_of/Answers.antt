@@ -13,9 +13,11 @@ use Rattle.sv_space.proofs.SpansOf.{all_in_mip, all_inside, cells_of_box, if_ok_
 use Rattle.sv_space.proofs.line.spans_of.Goals as goal
 
 pub returns-in-Image-Mips-clause-in_mip : goal.returns-in-Image-Mips-clause-in_mip
-returns-in-Image-Mips-clause-in_mip c = IfOk-weaker c.box_runs.result _ (λ spans. All (IsInMip c.args.shape) (spans_in spans))
+returns-in-Image-Mips-clause-in_mip c = IfOk-weaker c.box_runs.result _
+    (λ spans. All (IsInMip c.args.shape) (spans_in spans))
     (λ spans all. subst (λ (s : Shape). All (IsInMip s) (spans_in spans)) (sym c.in-Image-Mips.is-1)
-    (all_in_mip c.in-Image-Mips.mips-1 c.in-Image-Mips.layers (spans_in spans) all)) c.box_runs.ensures.in_one_mip
+    (all_in_mip c.in-Image-Mips.mips-1 c.in-Image-Mips.layers (spans_in spans) all))
+    c.box_runs.ensures.in_one_mip
 
 pub returns-in-Image-Mips-clause-inside : goal.returns-in-Image-Mips-clause-inside
 returns-in-Image-Mips-clause-inside c = λ res size shaped lies. (
@@ -23,7 +25,8 @@ returns-in-Image-Mips-clause-inside c = λ res size shaped lies. (
     c.in-Image-Mips.res-0 c.in-Image-Mips.cells c.in-Image-Mips.is-1 c.in-Image-Mips.is-0 lies in
     let shape_is : IsShaped (shape.Mips c.in-Image-Mips.mips-1 c.in-Image-Mips.layers) size =
     subst (λ (s : Shape). IsShaped s size) c.in-Image-Mips.is-1 shaped in
-    if_ok_three c.box_runs.result _ _ _ _ c.box_runs.ensures.in_one_mip c.box_runs.ensures.ordered c.box_runs.ensures.cells
+    if_ok_three c.box_runs.result _ _ _ _ c.box_runs.ensures.in_one_mip c.box_runs.ensures.ordered
+    c.box_runs.ensures.cells
     (λ spans one ordered cells. all_inside c.in-Image-Mips.layers c.in-Image-Mips.mips-1 size
     c.in-Image-Mips.cells (spans_in spans) shape_is.1.1.1.1 on.2 one ordered cells))
 

@@ -10,7 +10,8 @@ returns-then-number-lt-MOST-clause-told c = told_pattern c.args.block _ c.args.s
     (omega arith) c.with.ensures
 
 pub returns-else-number-lt-MOST-clause-kept : goal.returns-else-number-lt-MOST-clause-kept
-returns-else-number-lt-MOST-clause-kept c = all_with_place c.args.block _ c.args.spot refl c.with-else-number-lt-MOST.ensures
+returns-else-number-lt-MOST-clause-kept c = all_with_place c.args.block _ c.args.spot refl
+    c.with-else-number-lt-MOST.ensures
 
 pub returns-else-number-lt-MOST-clause-told : goal.returns-else-number-lt-MOST-clause-told
 returns-else-number-lt-MOST-clause-told c = told_place c.args.block _ c.args.spot c.args.number

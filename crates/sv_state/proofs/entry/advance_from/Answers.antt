@@ -13,6 +13,7 @@ loop-i-preserved c =
       behind = omega (arith, behind);
       changed = changing_next HasAdvanced c.args.from c.loop-i.i c.args.entries.now c.loop-i.entries
           c.index-entries-i.result c.advance.new.e behind below c.index-entries-i.is
-          (subst (λ (y : Entry). HasAdvanced y c.advance.new.e) (sym c.index-entries-i.is) c.in_ok-advance.ensures)
+          (subst (λ (y : Entry). HasAdvanced y c.advance.new.e) (sym c.index-entries-i.is)
+          c.in_ok-advance.ensures)
           was.changed;
     }

@@ -11,8 +11,10 @@ loop-i-preserved c =
     let below : c.loop-i.i < length c.loop-i.entries = omega (arith, was.changed.long) in
     record {
       behind = omega (arith, behind);
-      changed = changing_next (HasGoneOn c.args.at c.args.group.now) c.args.from c.loop-i.i c.args.entries.now c.loop-i.entries
+      changed = changing_next (HasGoneOn c.args.at c.args.group.now) c.args.from c.loop-i.i c.args.entries.now
+          c.loop-i.entries
           c.index-entries-i.result c.extend.new.e behind below c.index-entries-i.is
-          (subst (λ (y : Entry). (HasGoneOn c.args.at c.args.group.now) y c.extend.new.e) (sym c.index-entries-i.is) c.in_ok-extend.ensures)
+          (subst (λ (y : Entry). (HasGoneOn c.args.at c.args.group.now) y c.extend.new.e)
+          (sym c.index-entries-i.is) c.in_ok-extend.ensures)
           was.changed;
     }

@@ -1,4 +1,5 @@
-use Rattle.std.proofs.Common.{ℕ, ◌≡◌, ◌/◌, ◌%◌, ◌∷◌, ◌++◌, [], ◌∙◌, List, ap, arith, get_or, length, subst, sym}
+use Rattle.std.proofs.Common.{ℕ, ◌≡◌, ◌/◌, ◌%◌, ◌∷◌, ◌++◌, [], ◌∙◌, List, ap, arith, get_or}
+use Rattle.std.proofs.Common.{length, subst, sym}
 use Rattle.sv_model.specs.declared.work.Group.{Group}
 use Rattle.sv_space.specs.Patterns.{HavePatterns, Tells}
 use Rattle.sv_space.specs.declared.marks.Block.{Block}
