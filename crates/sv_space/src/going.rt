@@ -19,7 +19,7 @@ use sv_model::work::{Area, Group};
 use sv_state::CellState;
 
 // The number of the next group, from that one on, that the state has to be given: those before add nothing
-// to it.
+// to it. To a state without accesses none does.
 fn next_of(
     groups: &Vec<Group>,
     patterns: &Vec<Pattern>,
@@ -40,6 +40,9 @@ fn next_of(
     ensures late { (d : Group) (e : Entry) → from < result → Contains (entries_of state.now) e
         → e.access.step < (slice_index_or groups.now.items from d).step }
 {
+    if state.kept() == 0 {
+        return groups.len();
+    }
     if groups[from].step <= state.newest() {
         from
     } else {
