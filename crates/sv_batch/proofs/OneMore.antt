@@ -6,8 +6,8 @@ use Rattle.std.proofs.Math.Seq.{take-suc}
 use Rattle.std.proofs.Math.ListN.{length-take}
 use Rattle.std.proofs.lemmas.List.Sums.{fold-append}
 use Rattle.sv_model.specs.Places.{Bound}
-use Rattle.sv_model.specs.Gather.{gather}
-use Rattle.sv_model.specs.Processed.{Made}
+use Rattle.sv_model.specs.Lists.{gather}
+use Rattle.sv_model.specs.Primitives.{Made}
 use Rattle.sv_model.specs.Work.{numbered}
 use Rattle.sv_model.specs.declared.line.Trace.{Trace}
 use Rattle.sv_model.proofs.NoteGrowth.{enumerated}

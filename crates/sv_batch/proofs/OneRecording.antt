@@ -4,9 +4,9 @@ use Rattle.std.proofs.Common.{sym}
 use Rattle.std.specs.List.{All, fold}
 use Rattle.sv_model.specs.Binding.{added_instances, instances_of, bound, step_made}
 use Rattle.sv_model.specs.Places.{Bound}
-use Rattle.sv_model.specs.Gather.{gather}
+use Rattle.sv_model.specs.Lists.{gather}
 use Rattle.sv_model.specs.Lawful.{IsLawful}
-use Rattle.sv_model.specs.Processed.{Made}
+use Rattle.sv_model.specs.Primitives.{Made}
 use Rattle.sv_model.specs.Work.{numbered}
 use Rattle.sv_model.specs.declared.line.Trace.{Trace}
 use Rattle.sv_model.specs.declared.work.Step.{Step}

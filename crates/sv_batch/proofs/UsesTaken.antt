@@ -13,7 +13,7 @@ use Rattle.sv_model.specs.Semaphores.{wait_given, binary_pair, current_value, pa
 use Rattle.sv_model.specs.Semaphores.{signaled, waited}
 use Rattle.sv_model.specs.Places.{Bound}
 use Rattle.sv_model.specs.Declarations.{initial_value}
-use Rattle.sv_model.specs.Processed.{Made, Signal}
+use Rattle.sv_model.specs.Primitives.{Made, Signal}
 use Rattle.sv_model.specs.QueueGroups.{from_token, place_in, to_token}
 use Rattle.sv_model.specs.declared.line.SemaphoreUse.{SemaphoreUse}
 use Rattle.sv_model.specs.declared.line.Trace.{Trace}

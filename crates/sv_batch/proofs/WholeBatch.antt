@@ -7,8 +7,8 @@ use Rattle.sv_model.specs.Binding.{rec_given, rec_made}
 use Rattle.sv_model.specs.Semaphores.{signal_given, signals_step, timeline_notes, wait_given, waits_made}
 use Rattle.sv_model.specs.Semaphores.{waits_step, batch_ready, signaled, waited}
 use Rattle.sv_model.specs.Places.{Bound}
-use Rattle.sv_model.specs.Gather.{gather}
-use Rattle.sv_model.specs.Processed.{Made}
+use Rattle.sv_model.specs.Lists.{gather}
+use Rattle.sv_model.specs.Primitives.{Made}
 use Rattle.sv_model.specs.Work.{numbered}
 use Rattle.sv_model.specs.declared.line.Batch.{Batch}
 use Rattle.sv_model.specs.declared.line.SemaphoreUse.{SemaphoreUse}

@@ -6,12 +6,9 @@ use Rattle.std.specs.Option.{option_map, option_or}
 use Rattle.std.specs.Ordering.{nat_cmp}
 use Rattle.sv_model.specs.Binding.{instances_of}
 use Rattle.sv_model.specs.Recordings.{begins}
+use Rattle.sv_model.specs.Declarations.{first_recording}
 use Rattle.sv_model.specs.declared.line.Recording.{Recording}
 use Rattle.sv_model.specs.declared.line.Trace.{Trace}
-
--- the first recording with that number
-abbrev pub first_of : List Recording → ℕ → Option Recording
-first_of recordings number = find (λ (r : Recording). r.rec == number) recordings
 
 abbrev pub begun_in : Recording → ℕ
 begun_in r = count_by begins r.commands
@@ -19,7 +16,7 @@ begun_in r = count_by begins r.commands
 -- the table has each number of a recording, with the instances of the first recording of that number
 abbrev pub HaveInstances : List Recording → BTreeMap ℕ ℕ → Type 0
 HaveInstances recordings table = (number : ℕ) → get nat_cmp table number
-    ≡ option_map begun_in (first_of recordings number)
+    ≡ option_map begun_in (first_recording recordings number)
 
 -- a count is noted for a number, where none was noted before
 abbrev pub Notes : BTreeMap ℕ ℕ → BTreeMap ℕ ℕ → ℕ → ℕ → Type 0

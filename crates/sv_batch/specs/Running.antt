@@ -8,10 +8,10 @@ use Rattle.sv_mask.specs.Scopes.{second_sync, usages_at}
 use Rattle.sv_model.specs.Binding.{instances_of, rec_given, rec_made, bound, step_made}
 use Rattle.sv_model.specs.Places.{Bound}
 use Rattle.sv_model.specs.Recordings.{compile}
-use Rattle.sv_model.specs.Declarations.{kind_of}
+use Rattle.sv_model.specs.Declarations.{semaphore_kind}
 use Rattle.sv_model.specs.Holding.{is_published}
-use Rattle.sv_model.specs.Gather.{gather}
-use Rattle.sv_model.specs.Processed.{Made}
+use Rattle.sv_model.specs.Lists.{gather}
+use Rattle.sv_model.specs.Primitives.{Made}
 use Rattle.sv_model.specs.Semaphores.{binary_pair, signaled, waited}
 use Rattle.sv_model.specs.QueueGroups.{from_token, place_in}
 use Rattle.sv_model.specs.Work.{numbered}
@@ -94,11 +94,11 @@ are_recordings_after r recs t before after = (event : ℕ) (old more : List Boun
 
 -- a wait for a binary semaphore finds a signal
 abbrev pub FindsSignal : Trace → Made → SemaphoreUse → Type 0
-FindsSignal t m u = kind_of t u.sem ≡ Some Binary → is_some (binary_pair m u.sem) ≡ true
+FindsSignal t m u = semaphore_kind t u.sem ≡ Some Binary → is_some (binary_pair m u.sem) ≡ true
 
 -- a signal of a binary semaphore finds it free
 abbrev pub FindsRoom : Trace → Made → SemaphoreUse → Type 0
-FindsRoom t m u = kind_of t u.sem ≡ Some Binary → binary_pair m u.sem ≡ None
+FindsRoom t m u = semaphore_kind t u.sem ≡ Some Binary → binary_pair m u.sem ≡ None
 
 -- each use has a value where its semaphore is a timeline, and each wait finds a signal after those before it
 pub record AreWaitsReady (t : Trace) (m : Made) (waits : List SemaphoreUse) : Type 0 where

@@ -1,7 +1,7 @@
 //! The number of a step, and the positions in it.
 ghost use Rattle.std.specs.Prelude.{◌≡◌, IfOk};
 ghost use Rattle.std.specs.List.{All};
-ghost use Rattle.sv_binding.specs.Short.{HasShortOlds, IsShort};
+ghost use Rattle.sv_model.specs.Size.{HasShortOlds, HasSmallPlaces};
 ghost use Rattle.sv_model.specs.Positions.{accesses_from, groups_from, numbered_group};
 
 use crate::sums::sum_small;
@@ -55,7 +55,7 @@ pub fn number_groups(
     groups: List<Group>,
 ) -> Result<List<Group>, AllocError>
     ensures numbered { IfOk result (λ numbered. numbered ≡ groups_from step 0 groups) }
-    ensures short { IfOk result IsShort }
+    ensures short { IfOk result HasSmallPlaces }
     ensures short_olds { IfOk result (All HasShortOlds) }
 {
     let mut numbered = List::with_capacity(alloc, groups.len())?;

@@ -5,18 +5,7 @@ use Rattle.std.specs.List.{cons_option, filter_map}
 use Rattle.std.specs.Option.{option_and_then}
 use Rattle.sv_model.specs.Declarations.{Resource, said, says_resource}
 use Rattle.sv_model.specs.declared.line.Line.{Line}
-
-said_with : (says : Line → Option Resource) (x : Line) (xs : List Line) (o : Option Resource) → says x ≡ o
-    → said says xs ≡ option_and_then says (find (λ (l : Line). is_some (says l)) xs)
-    → slice_get (cons_option o (filter_map says xs)) 0
-    ≡ option_and_then says (cond (is_some o) (Some x) (find (λ (l : Line). is_some (says l)) xs))
-said_with says x xs None is e = e
-said_with says x xs (Some r) is e = sym is
-
-said_is : (says : Line → Option Resource) (xs : List Line) → said says xs
-    ≡ option_and_then says (find (λ (l : Line). is_some (says l)) xs)
-said_is says [] = refl
-said_is says (x ∷ xs) = said_with says x xs (says x) refl (said_is says xs)
+use Rattle.sv_model.proofs.Said.{said_is}
 
 -- the line that is found says what is said
 pub says_first : (xs lines : List Line) (m n : ℕ) (x : Line) → xs ≡ lines → m ≡ n → Some x

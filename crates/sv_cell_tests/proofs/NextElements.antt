@@ -24,7 +24,8 @@ use Rattle.sv_state.specs.States.{RangesHold}
 use Rattle.sv_space.specs.Areas.{IsAreaOf}
 use Rattle.sv_space.specs.Steps.{IsNext}
 use Rattle.sv_step_laws.specs.Steps.{IsAccessOf, IsDepOf, IsGroupOf, IsOfImage, IsOldOf, IsRangeOf}
-use Rattle.sv_step_laws.specs.Steps.{IsShortGroup, IsTransferOf, MayDeclare}
+use Rattle.sv_step_laws.specs.Steps.{IsTransferOf, MayDeclare}
+use Rattle.sv_model.specs.Size.{HasShortOlds}
 use Rattle.sv_step_laws.proofs.Areas.{all_of, in_nothing}
 use Rattle.sv_cell_tests.specs.NextSteps.{IsNextOf, IsTransitionOn}
 
@@ -156,6 +157,6 @@ module _ (t : Trace) (area : Area) (n : ℕ) (g : Group) (dep : Dep) (transition
   pub element_next : (list : List Group) → list ≡ g ∷ [] → IsNextOf t n (Groups list)
   element_next list same = subst (λ (gs : List Group). IsNextOf t n (Groups gs)) (sym same) (record {
     inside = All-cons (IsGroupOf t) g [] element_is (All-nil (IsGroupOf t));
-    short = (lit< tt, All-cons IsShortGroup g [] few_olds (All-nil IsShortGroup));
+    short = (lit< tt, All-cons HasShortOlds g [] few_olds (All-nil HasShortOlds));
     next = element_comes;
   })

@@ -36,17 +36,6 @@ pub record AreFirsts (uses : List PassUse) (i : ℕ) (table : BTreeMap ℕ Layou
   pub from : (d : PassUse) (n : ℕ) (l : Layout) → get nat_cmp table n ≡ Some l → (k : ℕ) × (k < i)
       × ((slice_index_or uses k d).att ≡ n) × ((slice_index_or uses k d).layout ≡ l)
 
-pub no_firsts : (uses : List PassUse) (table : BTreeMap ℕ Layout) → IsEmpty table → AreFirsts uses 0 table
-no_firsts uses table e = record {
-  same = λ k d lt l found. absurd (omega (arith, lt));
-  there = λ k d lt. absurd (omega (arith, lt));
-  from = λ d n l found. absurd (let none : get nat_cmp table n ≡ None = no_entry table e n in
-      let both : None ≡ Some l = sym none ∙ found in cc);
-}
-  where
-    no_entry : (t : BTreeMap ℕ Layout) → IsEmpty t → (n : ℕ) → get nat_cmp t n ≡ None
-    no_entry t e n = grind (arith, e)
-
 same_itself : (l : Layout) → same_layout l l ≡ true
 same_itself l = eq-eqb (layout_number l) (layout_number l) refl
 

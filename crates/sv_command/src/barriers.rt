@@ -110,8 +110,8 @@ pub fn transfer_for(family: u32, area: Area, families: Option<(u32, u32)>) -> Op
 }
 
 /// A release makes nothing visible, an acquire makes nothing available.
-pub fn halved(transfer: Option<Transfer>, dep: Dep) -> Dep
-    ensures { result ≡ spec.halved transfer dep }
+pub fn transfer_half(transfer: Option<Transfer>, dep: Dep) -> Dep
+    ensures { result ≡ spec.transfer_half transfer dep }
 {
     match transfer {
         None => dep,
@@ -167,8 +167,8 @@ pub fn moving(transfer: Option<Transfer>, old: Option<Old>) -> Option<Old>
 }
 
 /// In a group with a transition the second scope also holds the pseudo stage `signal`.
-pub fn opened(moving: Option<Old>, dep: Dep) -> Dep
-    ensures { result ≡ spec.opened (option_to_list moving) dep }
+pub fn with_transition_stage(moving: Option<Old>, dep: Dep) -> Dep
+    ensures { result ≡ spec.with_transition_stage (option_to_list moving) dep }
 {
     match moving {
         None => dep,

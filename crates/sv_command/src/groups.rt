@@ -6,8 +6,8 @@ ghost use Rattle.sv_model.specs.LawfulCommands.{IsShort};
 ghost use Rattle.sv_model.specs.Plain.{ElementFits};
 
 use crate::barriers::{
-    area_of, dependency, halved, moving, old_of, opened, place_of, track_of, transfer_for,
-    transition,
+    area_of, dependency, moving, old_of, place_of, track_of, transfer_for, transfer_half,
+    transition, with_transition_stage,
 };
 use std::alloc::{AllocError, Global};
 use sv_model::line::Element;
@@ -30,7 +30,7 @@ fn group_with(
     let mut deps = List::new(alloc);
     let mut transitions = List::new(alloc);
     let mut olds = List::new(alloc);
-    deps.push_or_drop(opened(moving, halved(transfer, dep)))?;
+    deps.push_or_drop(with_transition_stage(moving, transfer_half(transfer, dep)))?;
     if let Some(old) = moving {
         transitions.push_or_drop(transition(here, old, pos))?;
     }

@@ -11,7 +11,7 @@ use Rattle.sv_model.specs.Declarations.{is_fence, queue_number, queues_of}
 use Rattle.sv_model.specs.HostWaits.{call_given, call_made}
 use Rattle.sv_model.specs.Fences.{fence_given, fence_notes, fence_reset, fence_signaled, fence_state}
 use Rattle.sv_model.specs.Fences.{has_signal}
-use Rattle.sv_model.specs.Processed.{Made}
+use Rattle.sv_model.specs.Primitives.{Made}
 use Rattle.sv_model.specs.QueueGroups.{from_token, group_from, place_in, to_token}
 use Rattle.sv_model.specs.Work.{numbered}
 use Rattle.sv_model.specs.declared.line.Line.{Line}
@@ -71,11 +71,6 @@ device_groups_are t place queues [] = All-nil (IsGroupOf t)
 device_groups_are t place queues (p ∷ rest) = All-append (IsGroupOf t) (queue_groups_on place queues p)
     (flat_map (queue_groups_on place queues) rest) (queue_groups_are t place queues p)
     (device_groups_are t place queues rest)
-
-pub to_token_is : (t : Trace) (place : Place) (q : ℕ) (s1 : Stages) (a1 : Usages) (token : ℕ)
-    → All (IsGroupOf t) (to_token place q s1 a1 token ∷ [])
-to_token_is t place q s1 a1 token = All-cons (IsGroupOf t) (to_token place q s1 a1 token) []
-    (group_is t place _ _ _ _ _ _) (All-nil (IsGroupOf t))
 
 -- Other fences, tokens and semaphores change nothing of what a step asks for.
 
@@ -138,30 +133,6 @@ left_signaled t m w fence f k stands is left = record {
   instances = left.instances;
   tokens = is ∙ ap (λ (n : ℕ). n + 1) left.tokens;
 }
-
-pub left_unsignaled : (t : Trace) (m : Made) (w : Work) (fence : ℕ) (f : Fences)
-    → FencesStandFor t (fence_reset m fence) f → IsLeft t m w
-    → IsLeft t (fence_reset m fence) (with_fences w f w.tokens)
-left_unsignaled t m w fence f stands left = record {
-  semaphores = semaphores_same t m (fence_reset m fence) w.semaphores refl refl left.semaphores;
-  fences = stands;
-  vulkan_events = events_same m (fence_reset m fence) w.events refl left.vulkan_events;
-  instances = left.instances;
-  tokens = left.tokens;
-}
-
-pub reset_done : (w : Work) (fence : ℕ) (f : Fences)
-    → ((t : Trace) (m : Made) → FencesStandFor t m w.fences → FencesStandFor t (fence_reset m fence) f)
-    → (t : Trace) (event : ℕ) → IsAfter t event (λ (m : Made). []) (λ (m : Made). fence_reset m fence) w
-    (with_fences w f w.tokens)
-reset_done w fence f stands t event old more m at =
-    subst (λ (bs : List Bound). IsAt t event old bs (fence_reset m fence) (with_fences w f w.tokens))
-    (sym (append-nil more))
-    (record {
-      left = left_unsignaled t m w fence f (stands t m at.left.fences) at.left;
-      steps = at.steps;
-      reply = at.reply;
-    })
 
 pub fence_done : (run : Run) (fence : ℕ) (w after : Work) (f : Fences) (k : ℕ) (was : Bool)
     (groups : List Group) (notes : List Note) → ((t : Trace) (m : Made) → FencesStandFor t m w.fences

@@ -20,16 +20,6 @@ space_stands t history false p ready e = record {
   resources = ready.fits.areas.space;
 }
 
--- before any event
-pub holds_first : (t : Trace) (p : Parts) → IsLawful t → AreReady t [] p → Holds t [] [] false p
-holds_first t p lawful ready = record {
-  lawful = lawful;
-  is_history = none_yet t;
-  answered = record { long = refl; each = λ event d lt. absurd (omega (arith, lt)) };
-  ready = ready;
-  lacks = tt;
-}
-
 -- after one more event
 pub holds_next : (t : Trace) (old new : List Mark) (m : Mark) (before after : List Reply) (reply : Reply)
     (p : Parts) → IsLawful t → AreReplies t old before → IsHistory t (old ++ m ∷ []) → new ≡ old ++ m ∷ []

@@ -6,7 +6,7 @@ use Rattle.std.proofs.lemmas.List.Elements.{All-nil}
 use Rattle.sv_model.specs.Places.{Bound}
 use Rattle.sv_model.specs.Holding.{past, Flow, Holding, arrived, flow, items_of, next}
 use Rattle.sv_model.specs.Laws.{left_by_items}
-use Rattle.sv_model.specs.Processed.{Made}
+use Rattle.sv_model.specs.Primitives.{Made}
 use Rattle.sv_model.specs.Notes.{cells_of_notes}
 use Rattle.sv_model.specs.Reports.{AreNumbered, AreReportsFrom, IsRun, spots_of}
 use Rattle.sv_model.specs.Work.{made, work}

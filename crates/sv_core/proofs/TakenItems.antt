@@ -16,7 +16,7 @@ use Rattle.sv_model.specs.HostWaits.{call_given, call_made}
 use Rattle.sv_model.specs.Fences.{fence_given, fence_signaled}
 use Rattle.sv_model.specs.Lawful.{IsLawful, IsLawfulCall}
 use Rattle.sv_model.specs.Laws.{left_by_items}
-use Rattle.sv_model.specs.Processed.{Made}
+use Rattle.sv_model.specs.Primitives.{Made}
 use Rattle.sv_model.specs.Work.{item_given, item_made, numbered}
 use Rattle.sv_model.specs.declared.line.Batch.{Batch}
 use Rattle.sv_model.specs.declared.line.Line.{Line}
@@ -145,14 +145,3 @@ fence_item t list r number x queue event fence run w after e same takes =
     (λ (m : Made). fence_signaled m fence) w after) same takes in
     subst (λ (y : Item). ItemTakes t list r number y w after) (sym e)
     (λ old more m may at. there may old more m at)
-
-pub batch_item : (t : Trace) (list : List Mark) (r : Recordings) (number : ℕ) (x : Item)
-    (queue event batch : ℕ) (run : Run) (w after : Work) → x ≡ item.Batch queue event batch → run
-    ≡ record { queue = queue; event = event; batch = batch; slot = 0; instance = 0 }
-    → ((b : Batch) → b ≡ batch_at t list run.event run.batch → IsBatchAfter t number r run b w after)
-    → ItemTakes t list r number x w after
-batch_item t list r number x queue event batch run w after e same takes =
-    let there = subst (λ (k : Run). (b : Batch) → b ≡ batch_at t list k.event k.batch
-    → IsBatchAfter t number r k b w after) same takes in
-    subst (λ (y : Item). ItemTakes t list r number y w after) (sym e)
-    (λ old more m may at. there (batch_at t list event batch) refl old more m may at)

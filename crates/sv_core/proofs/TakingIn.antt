@@ -6,7 +6,7 @@ use Rattle.sv_model.specs.Places.{Bound}
 use Rattle.sv_model.specs.Holding.{past, Flow, Holding, arrived, flow, items_of, next, start}
 use Rattle.sv_model.specs.Lawful.{IsLawful}
 use Rattle.sv_model.specs.Laws.{left_by_items}
-use Rattle.sv_model.specs.Processed.{Made, nothing_made}
+use Rattle.sv_model.specs.Primitives.{Made, nothing_made}
 use Rattle.sv_model.specs.Replies.{IsReply}
 use Rattle.sv_model.specs.Work.{bound_steps, item_given, item_made, numbered, work}
 use Rattle.sv_model.specs.declared.line.Mark.{Mark}
@@ -121,10 +121,6 @@ going_begins t list number e p q r empty may arrives publishes same =
     }
 
 -- Items are taken.
-
-pub going_may_run : (t : Trace) (list : List Mark) (number : ℕ) (p : Parts) → IsGoing t list number p
-    → MayRun p.work p.recordings
-going_may_run t list number p is = record { trace = t; fits = is.fits; recordings = is.way.recordings.each }
 
 -- what the gate says of the next item
 abbrev pub NextTakes : Parts → Option Item → Gate → Type 0

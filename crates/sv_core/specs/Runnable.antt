@@ -6,7 +6,7 @@ use Rattle.sv_model.specs.Places.{Bound}
 use Rattle.sv_model.specs.Declarations.{call_of, is_fence}
 use Rattle.sv_model.specs.Semaphores.{batch_ready}
 use Rattle.sv_model.specs.History.{batch_at}
-use Rattle.sv_model.specs.Processed.{Made}
+use Rattle.sv_model.specs.Primitives.{Made}
 use Rattle.sv_model.specs.Work.{numbered}
 use Rattle.sv_model.specs.declared.line.Batch.{Batch}
 use Rattle.sv_model.specs.declared.line.Line.{Line}

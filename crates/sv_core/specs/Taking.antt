@@ -2,7 +2,7 @@
 use Rattle.std.specs.Prelude.{ℕ, Bool, List, [], ◌∷◌, ◌++◌, map, length, if◌then◌else◌}
 use Rattle.sv_mask.specs.Scopes.{device_stages, device_usages, with_signal}
 use Rattle.sv_model.specs.Places.{Bound}
-use Rattle.sv_model.specs.Processed.{Made}
+use Rattle.sv_model.specs.Primitives.{Made}
 use Rattle.sv_model.specs.QueueGroups.{from_token, group_from}
 use Rattle.sv_model.specs.Work.{numbered}
 use Rattle.sv_model.specs.declared.line.Line.{Line}

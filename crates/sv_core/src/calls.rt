@@ -6,7 +6,7 @@ ghost use Rattle.sv_mask.specs.Scopes.{with_signal};
 ghost use Rattle.sv_model.specs.Declarations.{is_fence, queue_number, queues_of};
 ghost use Rattle.sv_model.specs.HostWaits as spec;
 ghost use Rattle.sv_model.specs.Fences as fences_spec;
-ghost use Rattle.sv_model.specs.Processed.{Made};
+ghost use Rattle.sv_model.specs.Primitives.{Made};
 ghost use Rattle.sv_model.specs.Fences.{fence_reset, fence_signaled, fence_state};
 ghost use Rattle.sv_model.specs.QueueGroups as groups;
 ghost use Rattle.sv_model.specs.declared.line.Trace.{Trace};

@@ -5,7 +5,7 @@ ghost use Rattle.sv_model.specs.Places.{Bound};
 ghost use Rattle.sv_model.specs.Declarations.{call_of};
 ghost use Rattle.sv_model.specs.HostWaits.{call_given, call_made};
 ghost use Rattle.sv_model.specs.History.{batch_at, batches_in, call_at, no_batch};
-ghost use Rattle.sv_model.specs.Processed.{Made};
+ghost use Rattle.sv_model.specs.Primitives.{Made};
 ghost use Rattle.sv_model.specs.Work.{item_given, item_made, numbered};
 ghost use Rattle.sv_model.specs.Work as spec;
 ghost use Rattle.sv_model.specs.declared.line.Trace.{Trace};

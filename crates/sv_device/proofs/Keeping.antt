@@ -108,23 +108,3 @@ received t named v w b index place m r k is e shown trace history number reply =
   reply = subst (λ (u : Trace). IsReply u w.history r.number r.reply) (trace ∙ k.trace)
       (subst (λ n. IsReply w.trace w.history n r.reply) (sym number) reply);
 }
-
--- where it stopped
-pub stopped_in : (t : Trace) (named : TableId) (v : State) (b : BookIs) (s : Stop) → IsKept t named v b
-    → IsHistory v.trace v.history → (IsWhole v.trace v.history → v.spent ≡ false)
-    → IsStop (length v.history) v.spent s → IsStopIn t s
-stopped_in t named v b stop.Memory k is unspent cause = tt
-stopped_in t named v b (stop.Spent s) k is unspent cause = (
-  v.history,
-  subst (λ (u : Trace). IsHistory u v.history) k.trace is,
-  number v.spent cause,
-  λ whole. lacks (subst (λ spent. IsStop (length v.history) spent (stop.Spent s))
-      (unspent (subst (λ (u : Trace). IsWhole u v.history) (sym k.trace) whole)) cause),
-)
-  where
-    number : (spent : Bool) → IsStop (length v.history) spent (stop.Spent s) → s.number ≡ length v.history
-    number true h = h
-    number false h = absurd h
-
-    lacks : IsStop (length v.history) false (stop.Spent s) → ⊥
-    lacks h = absurd h

@@ -20,20 +20,10 @@ use Rattle.sv_model.specs.Declarations.{recording_of}
 use Rattle.sv_model.specs.History.{IsHistory, IsOfTrace, IsPrefix, call_by, calls_of, published_by}
 use Rattle.sv_model.specs.History.{publications_of, lane_script, recorder_script}
 use Rattle.sv_model.specs.Lawful.{IsLawful, HasRecorder}
+use Rattle.sv_model.proofs.Lists.{given_none, given_one}
 use Rattle.sv_device.specs.declared.who.Who.{Who}
 use Rattle.sv_device.specs.declared.who.Who.TheVariants.{Lane, Recorder}
 use Rattle.sv_device.specs.Actors.{events_of, mark_at, script_of}
-
--- What one more element gives.
-
-given_none : {X Y : Type 0} (h : X → Option Y) (xs : List X) (x : X) → h x ≡ None
-    → filter_map h (xs ++ x ∷ []) ≡ filter_map h xs
-given_none h xs x e = filter_map-append h xs (x ∷ []) ∙ ap (λ o. filter_map h xs ++ cons_option o []) e
-    ∙ append-nil (filter_map h xs)
-
-given_one : {X Y : Type 0} (h : X → Option Y) (xs : List X) (x : X) (y : Y) → h x ≡ Some y
-    → filter_map h (xs ++ x ∷ []) ≡ filter_map h xs ++ y ∷ []
-given_one h xs x y e = filter_map-append h xs (x ∷ []) ∙ ap (λ o. filter_map h xs ++ cons_option o []) e
 
 -- a prefix with the next element is one
 prefix_more : (xs ys : List ℕ) (y : ℕ) → IsPrefix xs ys → length xs < length ys → get_or ys (length xs) y

@@ -10,8 +10,8 @@ use Rattle.std.proofs.lemmas.Option.{slice_get_past, slice_get-get_or}
 use Rattle.std.proofs.lemmas.List.{take_more}
 use Rattle.sv_model.specs.declared.line.Trace.{Trace}
 use Rattle.sv_model.specs.declared.line.SemKind.TheVariants.{Binary}
-use Rattle.sv_model.specs.Declarations.{kind_of, initial_value}
-use Rattle.sv_model.specs.Processed.{Made, Signal}
+use Rattle.sv_model.specs.Declarations.{semaphore_kind, initial_value}
+use Rattle.sv_model.specs.Primitives.{Made, Signal}
 use Rattle.sv_model.specs.Semaphores.{binary_pair, serves, current_value}
 use Rattle.sv_sema.specs.declared.semaphores.Pairing.{Pairing}
 use Rattle.sv_sema.specs.declared.semaphores.Pairing.TheVariants.{Initial}
@@ -63,7 +63,7 @@ kept_standing : (m : Made) (n : ℕ) (o : Option (Option ℕ)) → MatchOption o
 kept_standing m n None h = absurd h
 kept_standing m n (Some standing) h = stands_one m n standing h
 
-pub standing_is : (t : Trace) (m : Made) (s : Semaphores) (n : ℕ) → StandFor t m s → kind_of t n
+pub standing_is : (t : Trace) (m : Made) (s : Semaphores) (n : ℕ) → StandFor t m s → semaphore_kind t n
     ≡ Some Binary → standing_of m n ≡ cond (is_none (binary_pair m n)) 0 1
 standing_is t m s n stands binary = kept_standing m n (get nat_cmp s.binaries n) (stands.binaries n binary)
 

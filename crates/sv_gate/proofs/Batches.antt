@@ -9,7 +9,7 @@ use Rattle.sv_model.specs.declared.line.Mark.{Mark}
 use Rattle.sv_model.specs.declared.line.Batch.{Batch}
 use Rattle.sv_model.specs.declared.line.SemaphoreUse.{SemaphoreUse}
 use Rattle.sv_model.specs.declared.work.Taken.{Taken}
-use Rattle.sv_model.specs.Processed.{Past}
+use Rattle.sv_model.specs.Primitives.{Past}
 use Rattle.sv_model.specs.Holding.{past, batches_done, items_of}
 use Rattle.sv_model.specs.Semaphores.{batch_ready, wait_served, use_fits, is_balanced, is_binary_use}
 use Rattle.sv_model.specs.Semaphores.{signals_standing}

@@ -16,7 +16,7 @@ use Rattle.sv_model.specs.declared.work.Item.TheVariants as item
 use Rattle.sv_model.specs.declared.work.Taken.{Taken}
 use Rattle.sv_model.specs.Declarations.{call_of}
 use Rattle.sv_model.specs.History.{batch_at}
-use Rattle.sv_model.specs.Processed.{Made, Signal, nothing_made}
+use Rattle.sv_model.specs.Primitives.{Made, Signal, nothing_made}
 use Rattle.sv_model.specs.Semaphores.{raises, signaled, waited, is_binary_use, waits_made}
 use Rattle.sv_model.specs.Holding.{batch_of, batches_done, items_of}
 use Rattle.sv_model.specs.Batches.{batch_made, recs_made}

@@ -26,14 +26,6 @@ use Rattle.sv_gate.proofs.Starts.{lane_is, made_waits}
 
 -- Publications.
 
-at_eqb : (a b : ℕ) → is_at (nat_cmp a) b ≡ (a == b)
-at_eqb a b = by_order a b (cases_order a b)
-  where
-    by_order : (a b : ℕ) → (a ≡ b) ⊎ ((a < b) ⊎ (b < a)) → is_at (nat_cmp a) b ≡ (a == b)
-    by_order a b (inl e) = grind (arith, nat_tests)
-    by_order a b (inr (inl l)) = grind (arith, nat_tests)
-    by_order a b (inr (inr l)) = grind (arith, nat_tests)
-
 one_more : (events : List Mark) (m : Mark) (rec : ℕ) → is_published (events ++ m ∷ []) rec
     ≡ (is_published events rec || publishes rec m)
 one_more events m rec = list_any-append (publishes rec) events (m ∷ [])
@@ -43,41 +35,9 @@ one_more events m rec = list_any-append (publishes rec) events (m ∷ [])
     last true = refl
     last false = refl
 
-or_cond : (a b : Bool) → cond a true b ≡ (b || a)
-or_cond true true = refl
-or_cond true false = refl
-or_cond false true = refl
-or_cond false false = refl
-
 never : (b : Bool) → b ≡ (b || false)
 never true = refl
 never false = refl
-
-pub after_publish : (t : Trace) (h : Holding) (g new : Gate) (rec : ℕ) → IsGateOf t h g → new.scripts
-    ≡ g.scripts → new.events.items ≡ g.events.items ++ mark.Publish rec ∷ []
-    → Updates nat_cmp g.published new.published rec true
-    → new.lanes.items ≡ g.lanes.items → new.queues.items ≡ g.queues.items → new.total ≡ g.total
-    → IsGateOf t (arrived (record { done = []; holding = h }) (mark.Publish rec)).holding new
-after_publish t h g new rec is scripts events updates lanes queues total =
-    let within : held_count t h ≤ g.total = is.total in
-    let small : g.total < 2 ^ 62 = is.small in
-    record {
-      scripts = scripts ∙ is.scripts;
-      events = events ∙ ap (λ (all : List Mark). all ++ mark.Publish rec ∷ []) is.events;
-      published = λ q.
-          updates.0 q
-          ∙ ap (λ (b : Bool). cond b true (contains nat_cmp g.published q)) (at_eqb rec q)
-          ∙ or_cond (rec == q) (contains nat_cmp g.published q)
-          ∙ ap (λ (b : Bool). b || (rec == q)) (is.published q)
-          ∙ sym (one_more h.events (mark.Publish rec) q);
-      lanes = ap (map came_in) lanes ∙ is.lanes;
-      waiting = λ k. subst (λ (all : List (List Waiting)). All (IsWaiting t k) (get_or all k []))
-          (sym lanes) (is.waiting k);
-      queues = queues ∙ is.queues;
-      lane_count = is.lane_count;
-      total = omega arith;
-      small = omega arith;
-    }
 
 -- Calls.
 

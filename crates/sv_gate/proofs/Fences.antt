@@ -11,7 +11,7 @@ use Rattle.sv_model.specs.declared.work.Item.TheVariants as item
 use Rattle.sv_model.specs.declared.work.Taken.{Taken}
 use Rattle.sv_model.specs.Declarations.{call_of, is_declared_signaled}
 use Rattle.sv_model.specs.History.{batch_at}
-use Rattle.sv_model.specs.Processed.{Made, FenceChange, nothing_made}
+use Rattle.sv_model.specs.Primitives.{Made, FenceChange, nothing_made}
 use Rattle.sv_model.specs.Fences.{fence_by, fence_state, has_signal, fence_after, fence_after_call}
 use Rattle.sv_model.specs.Fences.{is_signaled}
 use Rattle.sv_model.specs.HostWaits.{call_made}

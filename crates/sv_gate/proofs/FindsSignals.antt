@@ -20,8 +20,8 @@ use Rattle.sv_model.specs.Batches.{recs_made}
 use Rattle.sv_model.specs.Semaphores.{waits_made, batch_ready, is_balanced, is_binary_use, use_fits}
 use Rattle.sv_model.specs.Semaphores.{wait_served, binary_pair, signaled, waited}
 use Rattle.sv_model.specs.Places.{Run}
-use Rattle.sv_model.specs.Declarations.{kind_of}
-use Rattle.sv_model.specs.Processed.{Past, Made}
+use Rattle.sv_model.specs.Declarations.{semaphore_kind}
+use Rattle.sv_model.specs.Primitives.{Past, Made}
 use Rattle.sv_model.specs.Holding.{call_ready, item_ready, past, Came, Holding, first_calls, from_lane}
 use Rattle.sv_model.specs.Holding.{from_queue, items_of, next, starts, take_lane, take_queue}
 use Rattle.sv_model.specs.History.{batch_at}
@@ -44,7 +44,8 @@ passes_at : {X : Type 0} (p : X → Bool) (xs : List X) (i : ℕ) (d : X) → i 
     → p (get_or xs i d) ≡ true
 passes_at p xs i d l all = All-get_or (λ x. p x ≡ true) xs i d l (AllPass-from_list_all p xs all)
 
-has_no_value : (t : Trace) (sem : ℕ) (value : Option ℕ) → IsUseOf t sem value → kind_of t sem ≡ Some Binary
+has_no_value : (t : Trace) (sem : ℕ) (value : Option ℕ) → IsUseOf t sem value
+    → semaphore_kind t sem ≡ Some Binary
     → value ≡ None
 has_no_value t sem None fits binary = refl
 has_no_value t sem (Some v) fits binary =
@@ -84,7 +85,7 @@ used_before uses i d l none =
 -- Waits.
 
 pub waits_find : (t : Trace) (m : Made) (b : Batch) (i : ℕ) (d : SemaphoreUse) → IsBatchOf t b
-    → batch_ready (past_of t m) b ≡ true → i < length b.waits → kind_of t (get_or b.waits i d).sem
+    → batch_ready (past_of t m) b ≡ true → i < length b.waits → semaphore_kind t (get_or b.waits i d).sem
     ≡ Some Binary
     → is_some (binary_pair (fold waited m (take i b.waits)) (get_or b.waits i d).sem) ≡ true
 waits_find t m b i d fits ready l binary =
@@ -113,7 +114,7 @@ waits_find t m b i d fits ready l binary =
 -- Signals.
 
 pub signals_find : (t : Trace) (r : Run) (m : Made) (b : Batch) (i : ℕ) (d : SemaphoreUse) → IsBatchOf t b
-    → batch_ready (past_of t m) b ≡ true → i < length b.signals → kind_of t (get_or b.signals i d).sem
+    → batch_ready (past_of t m) b ≡ true → i < length b.signals → semaphore_kind t (get_or b.signals i d).sem
     ≡ Some Binary
     → binary_pair (fold (signaled t) (recs_made t r m b) (take i b.signals)) (get_or b.signals i d).sem ≡ None
 signals_find t r m b i d fits ready l binary =

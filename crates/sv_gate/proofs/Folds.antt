@@ -8,7 +8,7 @@ use Rattle.sv_model.specs.declared.line.SemaphoreUse.{SemaphoreUse}
 use Rattle.sv_model.specs.declared.work.Step.{Step}
 use Rattle.sv_model.specs.declared.work.Step.TheVariants as part
 use Rattle.sv_model.specs.Recordings.{compile}
-use Rattle.sv_model.specs.Processed.{Made}
+use Rattle.sv_model.specs.Primitives.{Made}
 use Rattle.sv_model.specs.Semaphores.{waited, raises, signaled, waits_made}
 use Rattle.sv_model.specs.Events.{in_force}
 use Rattle.sv_model.specs.Places.{Run}

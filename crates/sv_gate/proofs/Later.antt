@@ -8,7 +8,7 @@ use Rattle.std.proofs.lemmas.Option.{same_Some}
 use Rattle.sv_model.specs.declared.line.Mark.{Mark}
 use Rattle.sv_model.specs.declared.line.Trace.{Trace}
 use Rattle.sv_model.specs.declared.work.Item.{Item}
-use Rattle.sv_model.specs.Processed.{Past, nothing_made}
+use Rattle.sv_model.specs.Primitives.{Past, nothing_made}
 use Rattle.sv_model.specs.Holding.{past, call_ready, item_ready, Came, Flow, Holding, arrived, first_calls}
 use Rattle.sv_model.specs.Holding.{flow, from_lane, from_queue, held_count, items_of, next, settle, settled}
 use Rattle.sv_model.specs.Holding.{start, starts, step, take_lane, take_queue, took}

@@ -17,13 +17,14 @@ use Rattle.sv_model.specs.declared.line.SemKind.TheVariants.{Binary, Timeline}
 use Rattle.sv_model.specs.declared.work.Item.{Item}
 use Rattle.sv_model.specs.declared.work.Item.TheVariants as item
 use Rattle.sv_model.specs.declared.work.Taken.{Taken}
-use Rattle.sv_model.specs.Declarations.{QueueLine, kind_of, queue_of, call_of}
+use Rattle.sv_model.specs.Declarations.{QueueLine, semaphore_kind, queue_of, call_of}
 use Rattle.sv_model.specs.History.{batch_at, batches_in, call_of_mark, no_batch}
 use Rattle.sv_model.specs.Semaphores.{is_binary_use}
 use Rattle.sv_model.specs.Holding.{batch_of, batches_done, past, items_of}
 use Rattle.sv_model.specs.Laws.{left_by_items}
 use Rattle.sv_model.specs.LawfulParts.{HasItsValue, IsLawfulUse}
 use Rattle.sv_model.specs.Lawful.{IsLawful, IsLawfulBatch, BatchesAreLawful, IsLawfulCall, script_of}
+use Rattle.sv_model.proofs.Lists.{at_or}
 use Rattle.sv_sema.specs.Stands.{IsUseOf}
 use Rattle.sv_gate.specs.Calls.{NamesItsFence, call_in}
 use Rattle.sv_gate.specs.Kept.{AreUsesOf, IsBatchOf, Agrees}
@@ -33,7 +34,7 @@ use Rattle.sv_gate.proofs.Batches.{batches_are}
 
 -- Uses.
 
-use_of : (t : Trace) (sem : ℕ) (value : Option ℕ) (kind : Option SemKind) → kind_of t sem ≡ kind
+use_of : (t : Trace) (sem : ℕ) (value : Option ℕ) (kind : Option SemKind) → semaphore_kind t sem ≡ kind
     → HasItsValue kind value → IsUseOf t sem value
 use_of t sem None (Some Timeline) e h = absurd (let no : false ≡ true = h in cc)
 use_of t sem None (Some Binary) e h = e
@@ -46,7 +47,7 @@ UseFits t u = IsUseOf t u.sem u.value
 
 uses_fit : (t : Trace) (uses : List SemaphoreUse) → All (IsLawfulUse t) uses → AreUsesOf t uses
 uses_fit t uses all = All-weaker (IsLawfulUse t) (UseFits t)
-    (λ u h. use_of t u.sem u.value (kind_of t u.sem) refl h) uses all
+    (λ u h. use_of t u.sem u.value (semaphore_kind t u.sem) refl h) uses all
 
 batch_fits : (t : Trace) (family : ℕ) (b : Batch) → IsLawfulBatch t family b → IsBatchOf t b
 batch_fits t family b h = record {
@@ -94,11 +95,6 @@ mark_batches t (Some (mark.Call lane index)) lawful =
 
 -- Batches.
 
-at_or : {X : Type 0} (P : X → Type 0) (xs : List X) (i : ℕ) (d : X) → P d → All P xs → P (get_or xs i d)
-at_or P [] i d p all = p
-at_or P (x ∷ xs) zero d p all = All-head P x xs all
-at_or P (x ∷ xs) (suc i) d p all = at_or P xs i d p (All-tail P x xs all)
-
 pub batch_at_fits : (t : Trace) (history : List Mark) (event batch : ℕ) → IsLawful t
     → IsBatchOf t (batch_at t history event batch)
 batch_at_fits t history event batch lawful =
@@ -112,21 +108,21 @@ none_too : (b : Bool) → b ≡ (b && true)
 none_too true = refl
 none_too false = refl
 
-has_none : (t : Trace) (sem a : ℕ) (value : Option ℕ) → kind_of t sem ≡ Some Binary → IsUseOf t a value
+has_none : (t : Trace) (sem a : ℕ) (value : Option ℕ) → semaphore_kind t sem ≡ Some Binary → IsUseOf t a value
     → (b : Bool) → (a == sem) ≡ b → b ≡ (b && is_none value)
 has_none t sem a None binary fits b e = none_too b
 has_none t sem a (Some v) binary fits false e = refl
 has_none t sem a (Some v) binary fits true e =
-    let no : Some Timeline ≡ Some Binary = sym fits ∙ ap (kind_of t) (eqb-true a sem e) ∙ binary in
+    let no : Some Timeline ≡ Some Binary = sym fits ∙ ap (semaphore_kind t) (eqb-true a sem e) ∙ binary in
     absurd (let never : ⊥ = cc in never)
 
-pub no_values : (t : Trace) (sem : ℕ) (uses : List SemaphoreUse) → kind_of t sem ≡ Some Binary
+pub no_values : (t : Trace) (sem : ℕ) (uses : List SemaphoreUse) → semaphore_kind t sem ≡ Some Binary
     → AreUsesOf t uses → HasNoValues sem uses
 no_values t sem uses binary all = All-weaker (UseFits t)
     (λ (u : SemaphoreUse). (u.sem == sem) ≡ is_binary_use sem u)
     (λ u h. has_none t sem u.sem u.value binary h (u.sem == sem) refl) uses all
 
-batch_is_binary : (t : Trace) (sem : ℕ) (b : Batch) → kind_of t sem ≡ Some Binary → IsBatchOf t b
+batch_is_binary : (t : Trace) (sem : ℕ) (b : Batch) → semaphore_kind t sem ≡ Some Binary → IsBatchOf t b
     → IsBinaryIn sem b
 batch_is_binary t sem b binary fits = record {
   waits = no_values t sem b.waits binary fits.waits;
@@ -151,7 +147,8 @@ done_batches t events (x ∷ rest) P each = item_batch t events x.item
 binary_before : (t : Trace) (events : List Mark) (items : List Taken) (u : SemaphoreUse) → IsLawful t
     → UseFits t u → IsBinaryBefore t events items u
 binary_before t events items u lawful fits none =
-    let binary : kind_of t u.sem ≡ Some Binary = subst (λ (o : Option ℕ). IsUseOf t u.sem o) none fits in
+    let binary : semaphore_kind t u.sem ≡ Some Binary =
+    subst (λ (o : Option ℕ). IsUseOf t u.sem o) none fits in
     done_batches t events items (IsBinaryIn u.sem)
     (λ event batch. batch_is_binary t u.sem (batch_at t events event batch) binary
     (batch_at_fits t events event batch lawful))

@@ -14,7 +14,7 @@ use Rattle.sv_model.specs.declared.line.Line.TheVariants as line
 use Rattle.sv_model.specs.declared.work.Item.{Item}
 use Rattle.sv_model.specs.Declarations.{call_of}
 use Rattle.sv_model.specs.History.{batch_at, batches_in, call_at, call_of_mark, no_batch}
-use Rattle.sv_model.specs.Processed.{Past}
+use Rattle.sv_model.specs.Primitives.{Past}
 use Rattle.sv_model.specs.Holding.{call_ready, is_published, are_published, Came, Holding, starts, sent}
 use Rattle.sv_model.specs.Holding.{first_calls}
 use Rattle.sv_model.specs.Lawful.{IsLawful, IsLawfulCall}
@@ -145,20 +145,7 @@ same_all p q same (x ∷ xs) = both (same x) (same_all p q same xs)
     both : {a b c d : Bool} → a ≡ c → b ≡ d → (a && b) ≡ (c && d)
     both e f = cc
 
-pub published_is : (has : ℕ → Bool) (events : List Mark) (batches : List Batch)
-    → ((rec : ℕ) → has rec ≡ is_published events rec)
-    → list_all (λ (b : Batch). list_all has b.recs) batches ≡ are_published events batches
-published_is has events batches same = same_all (λ (b : Batch). list_all has b.recs)
-    (λ (b : Batch). list_all (is_published events) b.recs)
-    (λ b. same_all has (is_published events) same b.recs) batches
-
 -- Queues.
-
--- whether a queue starts is whether its first item may be taken
-pub queue_starts_is : (ready : Item → Bool) (items : List Item) → starts ready items
-    ≡ option_map_or ready (slice_get items 0) false
-queue_starts_is ready [] = refl
-queue_starts_is ready (x ∷ rest) = refl
 
 -- Batches.
 

@@ -6,7 +6,7 @@ use Rattle.sv_model.specs.declared.line.Trace.{Trace}
 use Rattle.sv_model.specs.declared.line.Batch.{Batch}
 use Rattle.sv_model.specs.Places.{Run}
 use Rattle.sv_model.specs.Declarations.{initial_value, is_declared_signaled, is_fence}
-use Rattle.sv_model.specs.Processed.{Made, Signal, FenceChange}
+use Rattle.sv_model.specs.Primitives.{Made, Signal, FenceChange}
 use Rattle.sv_model.specs.Semaphores.{current_value}
 use Rattle.sv_model.specs.Fences.{fence_by}
 use Rattle.sv_sema.specs.declared.semaphores.Semaphores.{Semaphores}

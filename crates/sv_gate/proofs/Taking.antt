@@ -161,22 +161,3 @@ after_item t h g new queue x rest is same lanes found queues one =
         small = omega arith;
       },
     )
-
-pub no_item : (t : Trace) (h : Holding) (g new : Gate) (queue : ℕ) → IsGateOf t h g → IsSame g new
-    → new.lanes.items ≡ g.lanes.items → get_or g.queues.items queue [] ≡ [] → new.queues.items
-    ≡ g.queues.items → new.total ≡ g.total
-    → Takes t h (from_queue h queue (get_or h.queues queue [])) None new
-no_item t h g new queue is same lanes found queues all =
-    let e : get_or h.queues queue [] ≡ [] = ap (λ (all : List (List Item)). get_or all queue [])
-    (sym is.queues) ∙ found in
-    subst (λ (items : List Item). Takes t h (from_queue h queue items) None new) (sym e)
-    (refl, same_gate t h g new is same lanes queues all)
-
--- a held item counts in the total
-pub item_counts : (t : Trace) (h : Holding) (g : Gate) (queue : ℕ) (x : Item) (rest : List Item)
-    → IsGateOf t h g → get_or g.queues.items queue [] ≡ x ∷ rest → 1 ≤ g.total
-item_counts t h g queue x rest is found =
-    let falls = queue_falls t h queue x rest (ap (λ (all : List (List Item)). get_or all queue [])
-    (sym is.queues) ∙ found) in
-    let within : held_count t h ≤ g.total = is.total in
-    omega (arith, falls, within)

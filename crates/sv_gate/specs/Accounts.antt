@@ -8,7 +8,7 @@ use Rattle.sv_model.specs.declared.line.Batch.{Batch}
 use Rattle.sv_model.specs.declared.line.SemaphoreUse.{SemaphoreUse}
 use Rattle.sv_model.specs.declared.work.Taken.{Taken}
 use Rattle.sv_model.specs.Declarations.{initial_value}
-use Rattle.sv_model.specs.Processed.{Made, Signal}
+use Rattle.sv_model.specs.Primitives.{Made, Signal}
 use Rattle.sv_model.specs.Semaphores.{serves, current_value, served, is_binary_use, batch_ready}
 use Rattle.sv_model.specs.Fences.{fence_state, has_signal, is_signaled}
 use Rattle.sv_model.specs.Holding.{batches_done, past, items_of}

@@ -10,7 +10,7 @@ use Rattle.sv_model.specs.declared.line.Line.TheVariants as line
 use Rattle.sv_model.specs.declared.line.Batch.{Batch}
 use Rattle.sv_model.specs.declared.work.Item.{Item}
 use Rattle.sv_model.specs.Declarations.{is_fence}
-use Rattle.sv_model.specs.Processed.{Past}
+use Rattle.sv_model.specs.Primitives.{Past}
 use Rattle.sv_model.specs.Holding.{are_published, is_empty, batches_from, fence_items}
 use Rattle.sv_gate.specs.declared.calls.Call.{Call}
 use Rattle.sv_gate.specs.declared.calls.Call.TheVariants.{Submit, WaitFence, ResetFence, WaitQueue}

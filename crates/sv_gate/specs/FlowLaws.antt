@@ -3,7 +3,7 @@ use Rattle.std.specs.Prelude.{◌≡◌, List, [], ◌∷◌, ◌++◌, Some}
 use Rattle.sv_model.specs.declared.line.Mark.{Mark}
 use Rattle.sv_model.specs.declared.line.Trace.{Trace}
 use Rattle.sv_model.specs.declared.work.Item.{Item}
-use Rattle.sv_model.specs.Processed.{Past}
+use Rattle.sv_model.specs.Primitives.{Past}
 use Rattle.sv_model.specs.Holding.{Holding, flow, next}
 use Rattle.sv_model.specs.Laws.{left_by_items}
 

@@ -7,7 +7,7 @@ use Rattle.sv_model.specs.declared.line.Batch.{Batch}
 use Rattle.sv_model.specs.declared.line.SemaphoreUse.{SemaphoreUse}
 use Rattle.sv_model.specs.declared.work.Taken.{Taken}
 use Rattle.sv_model.specs.History.{batch_at}
-use Rattle.sv_model.specs.Processed.{Made, Signal, Past}
+use Rattle.sv_model.specs.Primitives.{Made, Signal, Past}
 use Rattle.sv_model.specs.Semaphores.{current_value, batch_ready}
 use Rattle.sv_model.specs.Fences.{fence_state, has_signal}
 use Rattle.sv_model.specs.Holding.{past, items_of}

@@ -11,12 +11,12 @@ use Rattle.sv_model.specs.declared.work.Taken.{Taken}
 use Rattle.sv_model.specs.Batches.{batch_made, recs_made}
 use Rattle.sv_model.specs.Semaphores.{waits_made, batch_ready, binary_pair, signaled, waited}
 use Rattle.sv_model.specs.Places.{Run}
-use Rattle.sv_model.specs.Declarations.{kind_of}
+use Rattle.sv_model.specs.Declarations.{semaphore_kind}
 use Rattle.sv_model.specs.Holding.{past, Holding, items_of, next}
 use Rattle.sv_model.specs.History.{batch_at}
 use Rattle.sv_model.specs.Lawful.{IsLawful}
 use Rattle.sv_model.specs.Laws.{left_by_items}
-use Rattle.sv_model.specs.Processed.{Made}
+use Rattle.sv_model.specs.Primitives.{Made}
 use Rattle.sv_sema.specs.declared.semaphores.Semaphores.{Semaphores}
 use Rattle.sv_sema.specs.Stands.{StandFor as SemaphoresStandFor}
 use Rattle.sv_fence.specs.declared.fences.Fences.{Fences}
@@ -33,7 +33,8 @@ TakenBatchesAreReady = (t : Trace) (h : Holding) (items : List Taken) (queue eve
 -- in a batch that may run each wait for a binary semaphore finds a signal, after the waits before it
 abbrev pub ReadyWaitsFindSignals : Type 0
 ReadyWaitsFindSignals = (t : Trace) (m : Made) (b : Batch) (i : ℕ) (d : SemaphoreUse) → IsBatchOf t b
-    → batch_ready (past_of t m) b ≡ true → i < length b.waits → kind_of t (slice_index_or b.waits i d).sem
+    → batch_ready (past_of t m) b ≡ true → i < length b.waits
+    → semaphore_kind t (slice_index_or b.waits i d).sem
     ≡ Some Binary
     → is_some (binary_pair (fold waited m (take i b.waits)) (slice_index_or b.waits i d).sem) ≡ true
 
@@ -42,7 +43,7 @@ ReadyWaitsFindSignals = (t : Trace) (m : Made) (b : Batch) (i : ℕ) (d : Semaph
 abbrev pub ReadySignalsFindRoom : Type 0
 ReadySignalsFindRoom = (t : Trace) (r : Run) (m : Made) (b : Batch) (i : ℕ) (d : SemaphoreUse)
     → IsBatchOf t b → batch_ready (past_of t m) b ≡ true → i < length b.signals
-    → kind_of t (slice_index_or b.signals i d).sem ≡ Some Binary
+    → semaphore_kind t (slice_index_or b.signals i d).sem ≡ Some Binary
     → binary_pair (fold (signaled t) (recs_made t r m b) (take i b.signals))
     (slice_index_or b.signals i d).sem ≡ None
 

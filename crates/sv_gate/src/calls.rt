@@ -2,10 +2,9 @@
 ghost use Rattle.std.specs.Prelude.{◌≡◌, IfOk, map};
 ghost use Rattle.sv_gate.specs.Calls.{call_in, queue_by};
 
-use crate::copies::copy_batches;
 use std::alloc::{AllocError, Global};
 use sv_model::line::{Batch, Line};
-use sv_range::List;
+use sv_range::{Duplicate, List};
 
 /// A call of a lane. `Other` is a line that is no call.
 #[derive(Drop)]
@@ -22,7 +21,7 @@ pub enum Call {
     Other,
 }
 
-fn call_of(alloc: Global, line: &Line) -> Result<Call, AllocError>
+fn call_of(line: &Line) -> Result<Call, AllocError>
     ensures { IfOk result (λ call. call ≡ call_in line.now) }
 {
     match line {
@@ -33,7 +32,7 @@ fn call_of(alloc: Global, line: &Line) -> Result<Call, AllocError>
             ..
         } => Ok(Call::Submit {
             queue: *queue,
-            batches: copy_batches(alloc, batches)?,
+            batches: batches.copy()?,
             fence: *fence,
         }),
         Line::WaitFence { fence, .. } => Ok(Call::WaitFence(*fence)),
@@ -50,7 +49,7 @@ pub fn calls_of(alloc: Global, script: &List<Line>) -> Result<List<Call>, AllocE
 {
     let mut calls = List::new(alloc);
     for line in script.as_slice() {
-        calls.push_or_drop(call_of(alloc, line)?)?;
+        calls.push_or_drop(call_of(line)?)?;
     }
     Ok(calls)
 }

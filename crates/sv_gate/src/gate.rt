@@ -9,7 +9,7 @@ ghost use Rattle.sv_model.specs.declared.line.Mark.{Mark};
 ghost use Rattle.sv_model.specs.declared.line.Mark.TheVariants as mark;
 ghost use Rattle.sv_model.specs.declared.work.Held.TheVariants as held;
 ghost use Rattle.sv_model.specs.declared.work.Taken.{Taken};
-ghost use Rattle.sv_model.specs.Processed.{Past, Made};
+ghost use Rattle.sv_model.specs.Primitives.{Past, Made};
 ghost use Rattle.sv_model.specs.Holding.{past, call_ready, item_ready, Holding, start, starts, arrived};
 ghost use Rattle.sv_model.specs.Holding.{first_calls, from_lane, from_queue, next, flow, held_items};
 ghost use Rattle.sv_model.specs.Holding.{items_of};

@@ -6,7 +6,6 @@
 #![tactic(auto)]
 
 mod calls;
-mod copies;
 mod gate;
 mod lanes;
 pub mod laws;

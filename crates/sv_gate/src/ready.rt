@@ -3,7 +3,7 @@
 ghost use Rattle.std.specs.Prelude.{◌≡◌, Some, count_by, nat_le, if◌then◌else◌};
 ghost use Rattle.std.specs.List.{list_all};
 ghost use Rattle.sv_model.specs.declared.line.Trace.{Trace};
-ghost use Rattle.sv_model.specs.Processed.{Made};
+ghost use Rattle.sv_model.specs.Primitives.{Made};
 ghost use Rattle.sv_model.specs.Semaphores.{current_value};
 ghost use Rattle.sv_model.specs.Semaphores as enabled;
 ghost use Rattle.sv_sema.specs.Stands.{StandFor, IsUseOf};

@@ -11,7 +11,7 @@ use Rattle.std.proofs.lemmas.List.Folds.{list_any-append}
 use Rattle.std.proofs.lemmas.List.Elements.{All-append, All-cons, All-head, All-nil, All-tail, All-weaker}
 use Rattle.std.proofs.lemmas.List.Quantifiers.{position-Some}
 use Rattle.sv_model.specs.Declarations.{call_of}
-use Rattle.sv_model.specs.Processed.{Past}
+use Rattle.sv_model.specs.Primitives.{Past}
 use Rattle.sv_model.specs.Holding.{are_published, call_ready, is_published, item_ready, past, publishes}
 use Rattle.sv_model.specs.Holding.{Came, Flow, Holding, arrived, batches_from, fence_items, first_calls}
 use Rattle.sv_model.specs.Holding.{flow, from_lane, from_queue, held_count, items_of, lanes_after, next}

@@ -4,7 +4,7 @@ use Rattle.std.proofs.Common.{sym, ap, ◌∙◌, append-nil, append_assoc}
 use Rattle.std.specs.Prelude.{position, slice_index_or}
 use Rattle.std.specs.Option.{option_map_or}
 use Rattle.sv_model.specs.Places.{Bound}
-use Rattle.sv_model.specs.Processed.{Past, nothing_made}
+use Rattle.sv_model.specs.Primitives.{Past, nothing_made}
 use Rattle.sv_model.specs.Holding.{call_ready, item_ready, past, Came, Flow, Holding, arrived, first_calls}
 use Rattle.sv_model.specs.Holding.{flow, from_lane, from_queue, held_count, items_of, next, settle, settled}
 use Rattle.sv_model.specs.Holding.{starts, step, take_lane, take_queue, took}

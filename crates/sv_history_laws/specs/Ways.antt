@@ -3,7 +3,7 @@ use Rattle.std.specs.Prelude.{◌≡◌, ◌-◌, List, [], ◌∷◌, ◌++◌,
 use Rattle.sv_model.specs.Places.{Bound}
 use Rattle.sv_model.specs.Holding.{past, Flow, Holding, arrived, flow, items_of, next}
 use Rattle.sv_model.specs.Laws.{left_by_items}
-use Rattle.sv_model.specs.Processed.{Made}
+use Rattle.sv_model.specs.Primitives.{Made}
 use Rattle.sv_model.specs.Replies.{AreReplies, IsReply}
 use Rattle.sv_model.specs.Standing.{Reaches}
 use Rattle.sv_model.specs.Work.{bound_steps, given, made, numbered, work}

@@ -12,14 +12,6 @@ use Rattle.sv_hub.specs.Attachments.{Attached, Attachments, HasHeard, HasHeardIn
 use Rattle.sv_hub.specs.Lives.{HearsWhileItStays, Holds, LeavesWithWhatItHeard, ReportsAddUp, RoomLasts}
 use Rattle.sv_hub.specs.Lives.{Stays, begins, hears, joins, leaves}
 
--- nothing is delivered
-pub heard_nothing : (hub : Attachments) → HasHeard [] hub hub
-heard_nothing hub = record {
-  next = refl;
-  each = record
-      { long = refl; each = λ k d within. record { number = refl; heard = sym (append-nil _) } };
-}
-
 pub reports_add_up : ReportsAddUp
 reports_add_up reports more before now after p q = record {
   next = q.next ∙ p.next;

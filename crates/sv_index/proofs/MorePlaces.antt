@@ -8,8 +8,9 @@ use Rattle.std.proofs.lemmas.List.Folds.{find-append}
 use Rattle.std.proofs.lemmas.Option.{slice_get-get_or}
 use Rattle.std.proofs.Math.ListN.{get_or-append}
 use Rattle.std.proofs.Math.Seq.{get_or-append_seam}
+use Rattle.sv_model.specs.Declarations.{first_recording}
 use Rattle.sv_model.specs.declared.line.Recording.{Recording}
-use Rattle.sv_index.specs.Places.{IsPlaceOf, first_of}
+use Rattle.sv_index.specs.Places.{IsPlaceOf}
 
 more_cells : (rs : List Recording) (x : Recording) → length (rs ++ x ∷ []) ≡ length rs + 1
 more_cells rs x = length-append rs (x ∷ [])
@@ -28,8 +29,8 @@ last_place rs x =
     (let n : length (rs ++ x ∷ []) ≡ length rs + 1 = more_cells rs x in omega (arith, n))
     ∙ ap Some (get_or-append_seam rs x [] x)
 
-found_more : (rs : List Recording) (x : Recording) (n : ℕ) → first_of (rs ++ x ∷ []) n
-    ≡ option_or (first_of rs n) (if x.rec == n then Some x else None)
+found_more : (rs : List Recording) (x : Recording) (n : ℕ) → first_recording (rs ++ x ∷ []) n
+    ≡ option_or (first_recording rs n) (if x.rec == n then Some x else None)
 found_more rs x n = find-append (λ (r : Recording). r.rec == n) rs (x ∷ [])
 
 -- one more recording
@@ -38,14 +39,14 @@ place_more : (rs : List Recording) (x : Recording) (n : ℕ) (old : Option ℕ) 
 place_more rs x n (Some place) is =
     let lt : place < length (rs ++ x ∷ []) = (let m : length (rs ++ x ∷ []) ≡ length rs + 1 =
     more_cells rs x in omega (arith, is.0, m)) in
-    let at : first_of rs n ≡ Some (get_or rs place x) = is.1 ∙ slice_get-get_or rs place x is.0 in (
+    let at : first_recording rs n ≡ Some (get_or rs place x) = is.1 ∙ slice_get-get_or rs place x is.0 in (
       lt,
       found_more rs x n ∙ ap (λ (o : Option Recording). option_or o (if x.rec == n then Some x else None)) at
           ∙ sym at ∙ is.1 ∙ sym (same_place rs x place is.0),
     )
 place_more rs x n None is = by_test (x.rec == n) (found_more rs x n
     ∙ ap (λ (o : Option Recording). option_or o (if x.rec == n then Some x else None)) is) where
-      by_test : (b : Bool) → first_of (rs ++ x ∷ []) n ≡ (if b then Some x else None)
+      by_test : (b : Bool) → first_recording (rs ++ x ∷ []) n ≡ (if b then Some x else None)
           → IsPlaceOf (rs ++ x ∷ []) n (if b then Some (length rs) else None)
       by_test true found = (
         (let m : length (rs ++ x ∷ []) ≡ length rs + 1 = more_cells rs x in
@@ -79,9 +80,10 @@ place_none rs n o none is = subst (IsPlaceOf rs n) (sym is)
 
 -- what stands at the place is the recording
 pub told : (rs : List Recording) (n place : ℕ) (o : Option ℕ) → IsPlaceOf rs n o → o ≡ Some place
-    → first_of rs n ≡ slice_get rs place
+    → first_recording rs n ≡ slice_get rs place
 told rs n place o is e = (subst (IsPlaceOf rs n) e is).1
 
-pub told_none : (rs : List Recording) (n : ℕ) (o : Option ℕ) → IsPlaceOf rs n o → o ≡ None → first_of rs n
+pub told_none : (rs : List Recording) (n : ℕ) (o : Option ℕ) → IsPlaceOf rs n o → o ≡ None
+    → first_recording rs n
     ≡ None
 told_none rs n o is e = subst (IsPlaceOf rs n) e is

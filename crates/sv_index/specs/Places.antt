@@ -4,17 +4,14 @@ use Rattle.std.specs.Prelude.{if◌then◌else◌}
 use Rattle.std.specs.BTreeMap.{BTreeMap, get}
 use Rattle.std.specs.Option.{option_or}
 use Rattle.std.specs.Ordering.{nat_cmp}
+use Rattle.sv_model.specs.Declarations.{first_recording}
 use Rattle.sv_model.specs.declared.line.Recording.{Recording}
-
--- the first recording with that number
-abbrev pub first_of : List Recording → ℕ → Option Recording
-first_of recordings number = find (λ (r : Recording). r.rec == number) recordings
 
 -- the first recording with that number stands there, or there is none
 abbrev pub IsPlaceOf : List Recording → ℕ → Option ℕ → Type 0
-IsPlaceOf recordings number None = first_of recordings number ≡ None
+IsPlaceOf recordings number None = first_recording recordings number ≡ None
 IsPlaceOf recordings number (Some place) = (place < length recordings)
-    × (first_of recordings number ≡ slice_get recordings place)
+    × (first_recording recordings number ≡ slice_get recordings place)
 
 -- the table has the place of each number
 abbrev pub ArePlaces : List Recording → BTreeMap ℕ ℕ → Type 0

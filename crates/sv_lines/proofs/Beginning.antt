@@ -11,22 +11,22 @@ use Rattle.std.specs.BTreeMap.{BTreeMap, get}
 use Rattle.std.specs.Ordering.{nat_cmp}
 use Rattle.std.specs.List.{list_any, find}
 use Rattle.std.specs.Prelude.{is_none, is_some, option_and_then, slice_get, slice_index_or, ◌==◌, reverse}
+use Rattle.std.specs.Option.{option_or}
 use Rattle.sv_model.specs.declared.line.Recording.{Recording}
 use Rattle.sv_model.specs.declared.line.Trace.{Trace}
 use Rattle.sv_model.specs.Declarations.{recording_of}
 use Rattle.sv_model.specs.Recordings.{lowered, scope_after, steps_in}
-use Rattle.sv_model.specs.Size.{work_size, recording_size, step_size}
+use Rattle.sv_model.specs.Size.{work_size, recording_size, step_size, capped}
 use Rattle.sv_lines.specs.declared.taken.TakenLines.TheInside.{Inside}
 use Rattle.sv_lines.specs.declared.known.Known.{Known}
 use Rattle.sv_rules.specs.declared.standing.Standing.TheVariants as standing
-use Rattle.sv_lines.specs.Extents.{capped}
 use Rattle.sv_rules.specs.Named.{is_new_recording}
 use Rattle.sv_rules.specs.Places.{is_open_by, is_recording}
 use Rattle.sv_lines.specs.Sound.{IsSound, IsSteady, IsFitScope, KeepsPasses, passes_only, known_of}
 use Rattle.sv_lines.specs.Sound.{sized_part, trace_from}
 use Rattle.sv_lines.specs.Tables.{Puts, IsAsBefore}
 use Rattle.sv_rules.specs.Taken.{has_ended}
-use Rattle.sv_lines.proofs.Declared.{or_next, number_is}
+use Rattle.sv_lines.proofs.Declared.{number_is}
 use Rattle.sv_lines.proofs.Kept.{IsSoundInside, trace_in}
 use Rattle.sv_rules.proofs.Passing.{none_at}
 use Rattle.sv_lines.proofs.Sized.{lowered_same, same_passes, work_same}
@@ -43,13 +43,13 @@ get_before [] x y i e = absurd (let h : None ≡ Some y = e in cc)
 get_before (z ∷ xs) x y zero e = e
 get_before (z ∷ xs) x y (suc i) e = get_before xs x y i e
 
-find_step : {A : Type 0} (b : Bool) (x : A) (old new more : Option A) → new ≡ or_next old more
-    → cond b (Some x) new ≡ or_next (cond b (Some x) old) more
+find_step : {A : Type 0} (b : Bool) (x : A) (old new more : Option A) → new ≡ option_or old more
+    → cond b (Some x) new ≡ option_or (cond b (Some x) old) more
 find_step true x old new more e = refl
 find_step false x old new more e = e
 
 find_more : {A : Type 0} (p : A → Bool) (xs : List A) (x : A) → find p (xs ++ x ∷ [])
-    ≡ or_next (find p xs) (cond (p x) (Some x) None)
+    ≡ option_or (find p xs) (cond (p x) (Some x) None)
 find_more p [] x = refl
 find_more p (y ∷ xs) x = find_step (p y) y (find p xs) (find p (xs ++ x ∷ [])) (cond (p x) (Some x) None)
     (find_more p xs x)
@@ -58,7 +58,7 @@ map_more : {A B : Type 0} (f : A → B) (xs : List A) (x : A) → map f (xs ++ x
 map_more f [] x = refl
 map_more f (y ∷ xs) x = ap (λ ys. f y ∷ ys) (map_more f xs x)
 
-none_next : {A : Type 0} (o : Option A) → or_next o None ≡ o
+none_next : {A : Type 0} (o : Option A) → option_or o None ≡ o
 none_next None = refl
 none_next (Some x) = refl
 
@@ -94,7 +94,7 @@ with_fresh x rec recorder family = x.recordings.list.items ++ fresh rec recorder
 
 place_step : (x : Inside) (n : ℕ) (r : Recording) (o : Option ℕ) (found : Option Recording)
     → option_and_then (slice_get x.recordings.list.items) o ≡ found → is_some o ≡ is_some found
-    → option_and_then (slice_get (x.recordings.list.items ++ r ∷ [])) o ≡ or_next found None
+    → option_and_then (slice_get (x.recordings.list.items ++ r ∷ [])) o ≡ option_or found None
 place_step x n r None found e k = e ∙ sym (none_next found)
 place_step x n r (Some i) found e k =
     let some = some_of_known found k in
@@ -104,23 +104,23 @@ place_more : (x : Inside) (rec recorder family n : ℕ) (b : Bool) → IsSoundIn
     → recording_of (trace_in x) rec ≡ None → (b ≡ true → rec ≡ n)
     → option_and_then (slice_get (with_fresh x rec recorder family))
     (cond b (Some (length x.recordings.list.items)) (get nat_cmp x.recordings.places n))
-    ≡ or_next (recording_of (trace_in x) n) (cond b (Some (fresh rec recorder family)) None)
+    ≡ option_or (recording_of (trace_in x) n) (cond b (Some (fresh rec recorder family)) None)
 place_more x rec recorder family n true h new same =
     get_more x.recordings.list.items (fresh rec recorder family)
-    ∙ sym (ap (λ o. or_next o (Some (fresh rec recorder family)))
+    ∙ sym (ap (λ o. option_or o (Some (fresh rec recorder family)))
     (sym (ap (recording_of (trace_in x)) (same refl)) ∙ new))
 place_more x rec recorder family n false h new same =
     place_step x n (fresh rec recorder family) (get nat_cmp x.recordings.places n)
     (recording_of (trace_in x) n) (h.recorded.places n) (h.recorded.places_known n)
 
 known_more : (b : Bool) (v : ℕ) (r : Recording) (old : Option ℕ) (found : Option Recording) → is_some old
-    ≡ is_some found → is_some (cond b (Some v) old) ≡ is_some (or_next found (cond b (Some r) None))
+    ≡ is_some found → is_some (cond b (Some v) old) ≡ is_some (option_or found (cond b (Some r) None))
 known_more true v r old None e = refl
 known_more true v r old (Some y) e = refl
 known_more false v r old None e = e
 known_more false v r old (Some y) e = e
 
-still_unknown : (found more : Option Recording) → or_next found more ≡ None → found ≡ None
+still_unknown : (found more : Option Recording) → option_or found more ≡ None → found ≡ None
 still_unknown None more e = refl
 still_unknown (Some y) more e = absurd (let h : Some y ≡ None = e in cc)
 
@@ -186,7 +186,7 @@ fresh_is x rec recorder family h new = ap (λ b. record (fresh_known recorder fa
 -- the sizes of recordings are as before: the new one has none
 size_step : (t u : Trace) → u.passes ≡ t.passes → (rec recorder family k : ℕ) (b : Bool)
     (found : Option Recording) → (b ≡ true → found ≡ None)
-    → sum_by step_size (steps_in u (or_next found (cond b (Some (fresh rec recorder family)) None)))
+    → sum_by step_size (steps_in u (option_or found (cond b (Some (fresh rec recorder family)) None)))
     ≡ sum_by step_size (steps_in t found)
 unfolding lowered
 size_step t u e rec recorder family k b (Some r) new =

@@ -15,9 +15,8 @@ use Rattle.sv_model.specs.declared.line.Recording.{Recording}
 use Rattle.sv_model.specs.declared.line.Trace.{Trace}
 use Rattle.sv_model.specs.Declarations.{recording_of}
 use Rattle.sv_model.specs.Holding.{publishes, is_published}
-use Rattle.sv_model.specs.Size.{call_size, work_size}
+use Rattle.sv_model.specs.Size.{call_size, work_size, capped}
 use Rattle.sv_lines.specs.declared.taken.TakenLines.TheInside.{Inside}
-use Rattle.sv_lines.specs.Extents.{capped}
 use Rattle.sv_rules.specs.Places.{is_open_by, is_recording, submits_wrongly}
 use Rattle.sv_lines.specs.Sound.{IsSound, KeepsEnded, known_of, sized_part, trace_from}
 use Rattle.sv_rules.specs.Taken.{has_ended}

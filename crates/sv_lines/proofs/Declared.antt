@@ -3,7 +3,7 @@ use Rattle.std.proofs.Common.{◌≡◌, ℕ, List, [], ◌∷◌, ◌++◌, Boo
 use Rattle.std.proofs.Common.{Some, refl, sym, ◌∙◌, ap, inl, inr}
 use Rattle.std.proofs.lemmas.Bool.Decides.{eqb_tells}
 use Rattle.std.specs.Prelude.{is_none, is_some, option_map, filter_map, slice_get}
-use Rattle.std.specs.List.{cons_option}
+use Rattle.std.specs.Option.{option_or}
 use Rattle.std.specs.BTreeMap.{BTreeMap, get}
 use Rattle.std.specs.Ordering.{nat_cmp}
 use Rattle.sv_model.specs.declared.line.Line.{Line}
@@ -12,34 +12,13 @@ use Rattle.sv_model.specs.declared.line.SemKind.{SemKind}
 use Rattle.sv_model.specs.declared.line.Trace.{Trace}
 use Rattle.sv_model.specs.Declarations.{QueueLine, said, says_queue, says_resource, says_kind, says_event}
 use Rattle.sv_model.specs.Declarations.{says_signaled, queue_of}
+use Rattle.sv_model.proofs.Said.{said_more}
 use Rattle.sv_lines.specs.declared.extent.Extent.{Extent}
 use Rattle.sv_lines.specs.Extents.{as_resource}
 use Rattle.sv_lines.specs.Tables.{Puts}
 use Rattle.sv_rules.specs.Taken.{family_and_lane, queue_in}
 use Rattle.sv_rules.specs.Named.{is_new_queue, is_new_resource, is_new_semaphore, is_new_event, is_new_fence}
 use Rattle.sv_rules.specs.Trace.{with_line}
-
--- the first that says something, and else the next
-abbrev pub or_next : {X : Type 0} → Option X → Option X → Option X
-or_next None next = next
-or_next (Some x) next = Some x
-
-first_more : {X : Type 0} (says : Line → Option X) (o : Option X) (xs : List Line) (l : Line)
-    → (said says (xs ++ l ∷ []) ≡ or_next (said says xs) (says l))
-    → slice_get (cons_option o (filter_map says (xs ++ l ∷ []))) 0
-    ≡ or_next (slice_get (cons_option o (filter_map says xs)) 0) (says l)
-first_more says None xs l e = e
-first_more says (Some x) xs l e = refl
-
-last_says : {X : Type 0} (o : Option X) → slice_get (cons_option o []) 0 ≡ o
-last_says None = refl
-last_says (Some x) = refl
-
--- what lines say with one more
-pub said_more : {X : Type 0} (says : Line → Option X) (xs : List Line) (l : Line) → said says (xs ++ l ∷ [])
-    ≡ or_next (said says xs) (says l)
-said_more says [] l = last_says (says l)
-said_more says (x ∷ xs) l = first_more says (says x) xs l (said_more says xs l)
 
 is_none_is : {X : Type 0} (o : Option X) → is_none o ≡ true → o ≡ None
 is_none_is None e = refl
@@ -49,15 +28,11 @@ pub not_some_is : {X : Type 0} (o : Option X) → not (is_some o) ≡ true → o
 not_some_is None e = refl
 not_some_is (Some x) e = cc
 
-no_map : {A B : Type 0} (f : A → B) (o : Option A) → is_none (option_map f o) ≡ true → o ≡ None
-no_map f None e = refl
-no_map f (Some x) e = cc
-
 -- A table after one more line: f reads the entries of the table as what is said.
 
 entry_here : {V X : Type 0} (f : V → X) (b : Bool) (v : V) (old : Option V) (before : Option X)
     → option_map f old ≡ before → (b ≡ true → before ≡ None)
-    → option_map f (cond b (Some v) old) ≡ or_next before (cond b (Some (f v)) None)
+    → option_map f (cond b (Some v) old) ≡ option_or before (cond b (Some (f v)) None)
 entry_here f true v old None e new = refl
 entry_here f true v old (Some x) e new = let none : Some x ≡ None = new refl in cc
 entry_here f false v old None e new = e
@@ -73,7 +48,7 @@ number_is m n e = elim (eqb_tells m n) [
 -- a number of which nothing was said is put, and elsewhere the table says what was said
 pub table_more : {V X : Type 0} (f : V → X) (old new : BTreeMap ℕ V) (before : ℕ → Option X) (n : ℕ) (v : V)
     → ((k : ℕ) → option_map f (get nat_cmp old k) ≡ before k) → before n ≡ None → Puts old new n v
-    → (k : ℕ) → option_map f (get nat_cmp new k) ≡ or_next (before k) (cond (eqb n k) (Some (f v)) None)
+    → (k : ℕ) → option_map f (get nat_cmp new k) ≡ option_or (before k) (cond (eqb n k) (Some (f v)) None)
 table_more f old new before n v agrees first puts k =
     ap (option_map f) (puts k) ∙ entry_here f (eqb n k) v (get nat_cmp old k) (before k) (agrees k)
     (λ e. ap before (sym (number_is n k e)) ∙ first)
@@ -85,7 +60,7 @@ map_same (Some v) = refl
 -- the same where the table has what is said itself
 pub table_more_same : {V : Type 0} (old new : BTreeMap ℕ V) (before : ℕ → Option V) (n : ℕ) (v : V)
     → ((k : ℕ) → get nat_cmp old k ≡ before k) → before n ≡ None → Puts old new n v
-    → (k : ℕ) → get nat_cmp new k ≡ or_next (before k) (cond (eqb n k) (Some v) None)
+    → (k : ℕ) → get nat_cmp new k ≡ option_or (before k) (cond (eqb n k) (Some v) None)
 table_more_same old new before n v agrees first puts k =
     sym (map_same (get nat_cmp new k)) ∙ table_more (λ x. x) old new before n v
     (λ j. map_same (get nat_cmp old j) ∙ agrees j) first puts k
@@ -93,9 +68,9 @@ table_more_same old new before n v agrees first puts k =
 -- Kind by kind.
 
 queue_said : (t : Trace) (n family lane k : ℕ) (o : Option QueueLine)
-    → option_map family_and_lane (or_next o (cond (eqb n k)
+    → option_map family_and_lane (option_or o (cond (eqb n k)
     (Some (record { family = family; lane = lane })) None))
-    ≡ or_next (option_map family_and_lane o) (cond (eqb n k) (Some (family, lane)) None)
+    ≡ option_or (option_map family_and_lane o) (cond (eqb n k) (Some (family, lane)) None)
 queue_said t n family lane k (Some q) = refl
 queue_said t n family lane k None = elim (eqb n k) as
     (λ b. option_map family_and_lane (cond b (Some (record { family = family; lane = lane })) None)
@@ -119,7 +94,7 @@ unfolding is_new_resource
 resource_more t n of l old new says agrees first puts k =
     table_more as_resource old new (λ j. said (says_resource j) t.resources) n of agrees
     (is_none_is (said (says_resource n) t.resources) first) puts k
-    ∙ ap (or_next (said (says_resource k) t.resources)) (sym (says k))
+    ∙ ap (option_or (said (says_resource k) t.resources)) (sym (says k))
     ∙ sym (said_more (says_resource k) t.resources l)
 
 pub semaphore_more : (t : Trace) (n : ℕ) (kind : SemKind) (initial : Option ℕ) (old new : BTreeMap ℕ SemKind)
@@ -147,7 +122,7 @@ unfolding is_new_event
 event_more t n old new agrees first puts k =
     table_more_same old new (λ j. said (says_event j) t.events) n n agrees
     (not_some_is (said (says_event n) t.events) first) puts k
-    ∙ ap (or_next (said (says_event k) t.events)) (event_here n k)
+    ∙ ap (option_or (said (says_event k) t.events)) (event_here n k)
     ∙ sym (said_more (says_event k) t.events (line.Event n))
 
 pub fence_more : (t : Trace) (n : ℕ) (signaled : Bool) (old new : BTreeMap ℕ Bool)

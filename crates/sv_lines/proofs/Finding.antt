@@ -15,11 +15,11 @@ use Rattle.sv_model.specs.declared.line.Trace.{Trace}
 use Rattle.sv_model.specs.Recordings.{scope_after}
 use Rattle.sv_model.specs.Declarations.{commands_in, recording_of}
 use Rattle.sv_model.specs.LawfulCommands.{IsLawfulCommand}
+use Rattle.sv_model.specs.Size.{capped}
 use Rattle.sv_lines.specs.declared.taken.TakenLines.TheInside.{Inside}
 use Rattle.sv_lines.specs.declared.known.Known.{Known}
 use Rattle.sv_rules.specs.declared.standing.Standing.{Standing}
 use Rattle.sv_rules.specs.declared.standing.Standing.TheVariants as standing
-use Rattle.sv_lines.specs.Extents.{capped}
 use Rattle.sv_lines.specs.Following.{IsSizeOf, standing_after}
 use Rattle.sv_lines.specs.KnownParts.{ended, stands_so, with_one_more}
 use Rattle.sv_rules.specs.Laws.{IsLawfulNext}

@@ -10,16 +10,17 @@ use Rattle.std.specs.Ordering.{nat_cmp}
 use Rattle.sv_model.specs.declared.line.Recording.{Recording}
 use Rattle.sv_model.specs.declared.line.Trace.{Trace}
 use Rattle.sv_model.specs.declared.line.SemKind.{SemKind}
-use Rattle.sv_model.specs.Declarations.{said, says_event, says_signaled, kind_of, recording_of, is_pass}
+use Rattle.sv_model.specs.Declarations.{said, says_event, says_signaled, semaphore_kind, recording_of}
+use Rattle.sv_model.specs.Declarations.{is_pass}
 use Rattle.sv_model.specs.Declarations.{commands_in}
 use Rattle.std.specs.Prelude.{sum_by}
 use Rattle.std.proofs.Common.{inl, inr}
-use Rattle.sv_model.specs.Size.{step_size}
+use Rattle.sv_model.specs.Size.{step_size, capped}
 use Rattle.sv_model.specs.Recordings.{scope_after, steps_in}
 use Rattle.sv_rules.specs.Standings as standing
 use Rattle.sv_lines.specs.declared.extent.Extent.{Extent}
 use Rattle.sv_lines.specs.declared.known.Known.{Known}
-use Rattle.sv_lines.specs.Extents.{as_resource, capped}
+use Rattle.sv_lines.specs.Extents.{as_resource}
 use Rattle.sv_lines.specs.KnownParts.{family_of, ended_of, standing_of, size_of}
 use Rattle.sv_rules.specs.Taken.{queue_in, resource_in, has_ended, standing_in, family_of_recording, size_in}
 use Rattle.sv_rules.specs.Named.{is_new_queue, is_new_resource, is_new_semaphore, is_new_event}
@@ -54,7 +55,7 @@ pub resource_new : (t : Trace) (n : ℕ) (o : Option Extent) (b : Bool) → opti
 unfolding is_new_resource resource_in
 resource_new t n o b e h = none_tells o b h ∙ sym (none_map as_resource o) ∙ ap is_none e
 
-pub semaphore_new : (t : Trace) (n : ℕ) (o : Option SemKind) (b : Bool) → o ≡ kind_of t n → is_some o
+pub semaphore_new : (t : Trace) (n : ℕ) (o : Option SemKind) (b : Bool) → o ≡ semaphore_kind t n → is_some o
     ≡ not b → b ≡ is_new_semaphore t n
 unfolding is_new_semaphore
 semaphore_new t n o b e h = none_tells o b h ∙ ap is_none e

@@ -14,11 +14,10 @@ use Rattle.sv_model.specs.declared.line.Trace.{Trace}
 use Rattle.sv_model.specs.Recordings.{scope_after, lowered, steps_in, steps_of}
 use Rattle.sv_model.specs.Declarations.{recording_of}
 use Rattle.sv_model.specs.LawfulCommands.{IsLawfulCommand}
-use Rattle.sv_model.specs.Size.{recording_size, step_size, work_size}
+use Rattle.sv_model.specs.Size.{recording_size, step_size, work_size, capped}
 use Rattle.sv_lines.specs.declared.taken.TakenLines.TheInside.{Inside}
 use Rattle.sv_lines.specs.declared.known.Known.{Known}
 use Rattle.sv_rules.specs.declared.standing.Standing.{Standing}
-use Rattle.sv_lines.specs.Extents.{capped}
 use Rattle.sv_lines.specs.Following.{IsSizeOf, standing_after}
 use Rattle.sv_lines.specs.KnownParts.{stands_so, with_one_more}
 use Rattle.sv_rules.specs.Places.{is_open_by, is_recording}

@@ -31,10 +31,6 @@ IsSoundInside x = IsSound x.lines (trace_in x) x.size x.queues.table x.resources
     x.events.table x.fences.table x.passes.table x.sizes
     x.recordings.known.items x.recordings.places x.recordings.busy
 
-abbrev pub DeclaredIn : Inside → Trace → Type 0
-DeclaredIn x t = DeclarationsAgree t x.queues.table x.resources.table x.semaphores.table x.events.table
-    x.fences.table x.passes.table
-
 -- with other declaring lines of queues, resources, semaphores, events and fences
 abbrev pub redeclared : Inside → List Line → List Line → List Line → List Line → List Line → Trace
 redeclared x qs rs ss es fs = trace_from qs rs ss es fs x.passes.lines.items x.recordings.list.items

@@ -23,7 +23,7 @@ use Rattle.sv_model.specs.declared.work.PassPoint.{PassPoint}
 use Rattle.sv_model.specs.declared.work.PassPoint.TheVariants.{Begin, Next, End}
 use Rattle.sv_model.specs.declared.work.Step.{Step}
 use Rattle.sv_model.specs.declared.work.Step.TheVariants.{Groups}
-use Rattle.sv_model.specs.Barriers.{moves, opened, transition, place_of}
+use Rattle.sv_model.specs.Barriers.{moves, with_transition_stage, transition, place_of}
 use Rattle.sv_model.specs.Declarations.{Pass}
 use Rattle.sv_model.specs.Rendering.{access_step, load_usage, store_usage, view_area}
 use Rattle.sv_model.specs.Passes.{attached, begins_in, ends_in, entry_deps, entry_group, entry_olds}
@@ -215,7 +215,8 @@ dep_count false x y f g (d ∷ ds) = ap suc (length-map ds f ∙ sym (length-map
 group_is : (here : Here) (deps : List Dep) (olds : List Old) → group_size (pass_group here deps olds)
     ≡ length deps + length olds
 group_is here deps olds =
-    ap (λ n. n + length (map (transition (place_of here)) olds)) (length-map deps (opened olds))
+    ap (λ n. n + length (map (transition (place_of here)) olds))
+    (length-map deps (with_transition_stage olds))
     ∙ ap (λ n. length deps + n) (length-map olds (transition (place_of here)))
 
 same_group : (here there : Here) (deps more : List Dep) (olds others : List Old) → length deps ≡ length more

@@ -8,6 +8,7 @@ use Rattle.std.specs.BTreeMap.{BTreeMap, get}
 use Rattle.std.specs.Ordering.{nat_cmp}
 use Rattle.std.specs.List.{cons_option}
 use Rattle.std.specs.Prelude.{is_some, option_and_then, reverse, slice_get, slice_index_or, unwrap_or}
+use Rattle.std.specs.Option.{option_or}
 use Rattle.sv_model.specs.declared.line.Line.{Line}
 use Rattle.sv_model.specs.declared.line.Line.TheVariants as line
 use Rattle.sv_model.specs.declared.line.PassAttachment.{PassAttachment}
@@ -17,10 +18,9 @@ use Rattle.sv_model.specs.declared.line.Recording.{Recording}
 use Rattle.sv_model.specs.declared.line.Trace.{Trace}
 use Rattle.sv_model.specs.Recordings.{Scope, Outside, InRendering, InPass, scope_after, lowered, steps_in}
 use Rattle.sv_model.specs.Declarations.{Pass, empty_pass, is_pass, pass_of, recording_of, said, says_pass}
-use Rattle.sv_model.specs.Size.{recording_size, step_size, work_size}
+use Rattle.sv_model.specs.Size.{recording_size, step_size, work_size, capped}
 use Rattle.sv_lines.specs.declared.taken.TakenLines.TheInside.{Inside}
 use Rattle.sv_lines.specs.declared.measure.PassSizes.{PassSizes}
-use Rattle.sv_lines.specs.Extents.{capped}
 use Rattle.sv_lines.specs.Measures.{HasMeasure, IsMeasureOf}
 use Rattle.sv_rules.specs.Named.{is_new_pass}
 use Rattle.sv_lines.specs.PassLines.{pass_said}
@@ -31,7 +31,8 @@ use Rattle.sv_lines.specs.Tables.{Puts, IsAsBefore}
 use Rattle.sv_rules.specs.Taken.{has_ended}
 use Rattle.sv_pass.specs.Begun.{pass_in}
 use Rattle.sv_lines.proofs.Beginning.{get_before, get_more}
-use Rattle.sv_lines.proofs.Declared.{not_some_is, number_is, or_next, said_more}
+use Rattle.sv_lines.proofs.Declared.{not_some_is, number_is}
+use Rattle.sv_model.proofs.Said.{said_more}
 use Rattle.sv_lines.proofs.Everywhere.{map_same}
 use Rattle.sv_lines.proofs.Kept.{IsSoundInside, trace_in}
 
@@ -60,7 +61,7 @@ stays : (x : Inside) (l : Line) (n : ℕ) → is_pass (trace_in x) n ≡ true
 stays x l n e = said_more (says_pass n) x.passes.lines.items l
     ∙ first_stays (said (says_pass n) x.passes.lines.items) (says_pass n l) e
   where
-    first_stays : (o next : Option Pass) → is_some o ≡ true → or_next o next ≡ o
+    first_stays : (o next : Option Pass) → is_some o ≡ true → option_or o next ≡ o
     first_stays None next e = absurd (let h : false ≡ true = e in cc)
     first_stays (Some p) next e = refl
 
@@ -92,7 +93,7 @@ at_before lines l i p (Some y) at e = ap (option_and_then pass_said) (get_before
 
 place_step : (lines : List Line) (l : Line) (o : Option ℕ) (found : Option Pass)
     → option_and_then pass_said (option_and_then (slice_get lines) o) ≡ found → is_some o ≡ is_some found
-    → option_and_then pass_said (option_and_then (slice_get (lines ++ l ∷ [])) o) ≡ or_next found None
+    → option_and_then pass_said (option_and_then (slice_get (lines ++ l ∷ [])) o) ≡ option_or found None
 place_step lines l None None e k = refl
 place_step lines l None (Some p) e k = absurd (let h : false ≡ true = k in cc)
 place_step lines l (Some i) None e k = absurd (let h : true ≡ false = k in cc)
@@ -103,17 +104,17 @@ pass_more : (x : Inside) (n k : ℕ) (b : Bool) (a : List PassAttachment) (s : L
     → (b ≡ true → n ≡ k)
     → option_and_then pass_said (option_and_then (slice_get (lines_with x (line.RenderPass n a s d)))
     (cond b (Some (length x.passes.lines.items)) (get nat_cmp x.passes.table k)))
-    ≡ or_next (said (says_pass k) x.passes.lines.items) (cond b (Some (parts a s d)) None)
+    ≡ option_or (said (says_pass k) x.passes.lines.items) (cond b (Some (parts a s d)) None)
 pass_more x n k true a s d h new same =
     ap (option_and_then pass_said) (get_more x.passes.lines.items (line.RenderPass n a s d))
-    ∙ sym (ap (λ o. or_next o (Some (parts a s d)))
+    ∙ sym (ap (λ o. option_or o (Some (parts a s d)))
     (ap (λ m. said (says_pass m) x.passes.lines.items) (sym (same refl)) ∙ new))
 pass_more x n k false a s d h new same =
     place_step x.passes.lines.items (line.RenderPass n a s d) (get nat_cmp x.passes.table k)
     (said (says_pass k) x.passes.lines.items) (h.declared.passes k) (h.declared.passes_known k)
 
 known_more : (b : Bool) (v : ℕ) (p : Pass) (old : Option ℕ) (found : Option Pass) → is_some old
-    ≡ is_some found → is_some (cond b (Some v) old) ≡ is_some (or_next found (cond b (Some p) None))
+    ≡ is_some found → is_some (cond b (Some v) old) ≡ is_some (option_or found (cond b (Some p) None))
 known_more true v p old None e = refl
 known_more true v p old (Some y) e = refl
 known_more false v p old None e = e
@@ -123,8 +124,8 @@ known_more false v p old (Some y) e = e
 sized_step : (p : Pass) (m : PassSizes) (b : Bool) (found : Option Pass) (old : Option PassSizes)
     → IsMeasureOf p m → (b ≡ true → found ≡ None)
     → (is_some found ≡ true → HasMeasure (unwrap_or found empty_pass) old)
-    → is_some (or_next found (cond b (Some p) None)) ≡ true
-    → HasMeasure (unwrap_or (or_next found (cond b (Some p) None)) empty_pass) (cond b (Some m) old)
+    → is_some (option_or found (cond b (Some p) None)) ≡ true
+    → HasMeasure (unwrap_or (option_or found (cond b (Some p) None)) empty_pass) (cond b (Some m) old)
 sized_step p m true None old measure new before e = measure
 sized_step p m true (Some y) old measure new before e = absurd (let h : Some y ≡ None = new refl in cc)
 sized_step p m false None old measure new before e = absurd (let h : false ≡ true = e in cc)
@@ -342,11 +343,3 @@ pub passed_put : (x : Inside) (lines : List Line) (n : ℕ) (m : PassSizes) (tab
     → IsAsBefore x.passes.table table → Puts x.sizes sizes n m → Passed x x.lines lines table sizes
 passed_put x lines n m table sizes h new same as_before puts =
     passed_again x lines table sizes h same as_before (sizes_put x n m sizes h (pass_new x n new) puts)
-
--- they were not put
-pub passed_as_before : (x : Inside) (sizes : BTreeMap ℕ PassSizes) → IsSoundInside x
-    → IsAsBefore x.sizes sizes → Passed x x.lines x.passes.lines.items x.passes.table sizes
-passed_as_before x sizes h as_before =
-    passed_again x x.passes.lines.items x.passes.table sizes h refl (λ k. refl)
-    (λ k e. subst (λ (o : Option PassSizes). HasMeasure (pass_of (trace_in x) k) o) (sym (as_before k))
-    (h.steady.sizes k e))

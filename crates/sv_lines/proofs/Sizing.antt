@@ -29,10 +29,9 @@ use Rattle.sv_model.specs.Barriers.{place_of, track_of, transfer_for, transition
 use Rattle.sv_model.specs.Recordings.{Scope, Outside, InRendering, InPass, declared_access, steps_of}
 use Rattle.sv_model.specs.Rendering.{access_step, attachment_use, load_usage, rendering_loads}
 use Rattle.sv_model.specs.Rendering.{rendering_stores, store_usage}
-use Rattle.sv_model.specs.Size.{group_size, step_size}
+use Rattle.sv_model.specs.Size.{group_size, step_size, capped}
 use Rattle.sv_model.specs.LawfulCommands.{IsLawfulCommand}
 use Rattle.sv_rules.specs.declared.standing.Standing.{Standing}
-use Rattle.sv_lines.specs.Extents.{capped}
 use Rattle.sv_lines.specs.Following.{barrier_size, end_rendering_size, has_transition, has_transition_at}
 use Rattle.sv_lines.specs.Following.{is_release, step_with}
 use Rattle.sv_rules.specs.Places.{are_two_layouts}
@@ -54,37 +53,7 @@ access_total [] = refl
 access_total (x ∷ xs) = plain (1 + suc (length xs))
     ∙ sym (step_some (suc (length xs)) (λ e. omega (arith, e)))
 
--- a sum that stops at the greatest number, of one more
-pub step_capped : (parts n : ℕ) → parts ≡ capped n → capped (step_with parts) ≡ capped (step_with n)
-step_capped parts n e = elim (eqb_tells n 0) [
-  | inl same ↦ ap (λ k. capped (step_with k)) (e ∙ ap capped same.1 ∙ sym same.1)
-  | inr other ↦
-      let some = step_some n other.1 in
-      let more = step_some parts (λ none. other.1 (nothing n (sym e ∙ none))) in
-      ap capped more ∙ greatest parts n e ∙ sym (ap capped some)
-]
-  where
-    nothing : (n : ℕ) → capped n ≡ 0 → n ≡ 0
-    nothing n h = omega (arith, h)
-
-    greatest : (parts n : ℕ) → parts ≡ capped n → capped (1 + parts) ≡ capped (1 + n)
-    greatest parts n h = omega (arith, h)
-
 -- Accesses.
-
-pub work_total : (t : Trace) (here : Here) (scope : Scope) (accesses : List Declared)
-    → sum_by step_size (steps_of t here scope (command.Work accesses)) ≡ 1 + length accesses
-work_total t here scope accesses =
-    plain (1 + length (map (declared_access here) accesses))
-    ∙ ap (λ n. 1 + n) (length-map accesses (declared_access here))
-
-pub loads_total : (t : Trace) (here : Here) (scope : Scope) (attachments : List Attachment)
-    → sum_by step_size (steps_of t here scope (command.BeginRendering attachments))
-    ≡ step_with (length attachments)
-loads_total t here scope attachments =
-    access_total (rendering_loads here attachments)
-    ∙ ap step_with (length-map attachments (λ (a : Attachment). attachment_use here a
-    (load_usage a.class a.load)))
 
 abbrev counted : Bool → ℕ
 counted b = cond b 1 0
@@ -177,12 +146,6 @@ pub barrier_total : (t : Trace) (here : Here) (scope : Scope) (deps : List Eleme
     → sum_by step_size (steps_of t here scope (command.Barrier deps)) ≡ barrier_size here.family deps
 barrier_total t here scope deps =
     plain (1 + sum_by group_size (map (element_group here) deps)) ∙ ap (λ n. 1 + n) (groups_total here deps)
-
-pub set_total : (t : Trace) (here : Here) (scope : Scope) (event : ℕ) (deps : List Element)
-    → sum_by step_size (steps_of t here scope (command.SetEvent event deps)) ≡ 1 + length deps
-set_total t here scope event deps =
-    plain (1 + length (map (element_group here) deps))
-    ∙ ap (λ n. 1 + n) (length-map deps (element_group here))
 
 pub end_total : (t : Trace) (here : Here) (family : ℕ) (scope : Scope) (standing : Standing) (n : ℕ)
     → standing ≡ standing_of scope → IsLawfulCommand t family scope command.EndRendering → n

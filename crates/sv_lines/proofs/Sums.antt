@@ -2,7 +2,7 @@
 use Rattle.std.proofs.Common.{◌≡◌, ℕ, ◌+◌, ◌-◌, ◌^◌, min, arith, ◌∙◌, ap}
 use Rattle.std.specs.Prelude.{nat_lt}
 use Rattle.std.proofs.lemmas.Bool.Decides.{nat_tests}
-use Rattle.sv_lines.specs.Extents.{capped}
+use Rattle.sv_model.specs.Size.{capped}
 
 pub both_capped : (a b x y : ℕ) → a ≡ capped x → b ≡ capped y → min (a + b) (2 ^ 64 - 1) ≡ capped (x + y)
 both_capped a b x y e h = omega (arith, e, h)

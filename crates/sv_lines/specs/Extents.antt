@@ -12,7 +12,3 @@ as_resource (extent.Image mips layers) = ImageOf mips layers
 
 abbrev pub as_pass : Pass → model.Pass
 as_pass p = record { attachments = p.attachments.now; subpasses = p.subpasses.now; deps = p.deps.now }
-
--- a size, or the greatest number where it is above it
-abbrev pub capped : ℕ → ℕ
-capped n = min n (2 ^ 64 - 1)

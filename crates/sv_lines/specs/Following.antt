@@ -11,10 +11,9 @@ use Rattle.sv_model.specs.declared.work.PassPoint.TheVariants.{Next, End}
 use Rattle.sv_model.specs.Declarations.{is_pass, pass_of}
 use Rattle.sv_model.specs.Recordings.{Scope, steps_of}
 use Rattle.sv_model.specs.LawfulCommands.{IsLawfulCommand}
-use Rattle.sv_model.specs.Size.{step_size}
+use Rattle.sv_model.specs.Size.{step_size, capped}
 use Rattle.sv_rules.specs.declared.standing.Standing.{Standing}
 use Rattle.sv_rules.specs.declared.standing.Standing.TheVariants.{Outside, InRendering, InPass}
-use Rattle.sv_lines.specs.Extents.{capped}
 use Rattle.sv_lines.specs.Measures.{IsSizeAt}
 use Rattle.sv_rules.specs.Places.{are_two_layouts}
 use Rattle.sv_lines.specs.Sound.{IsFitScope}

@@ -6,9 +6,8 @@ use Rattle.sv_model.specs.declared.work.PassPoint.{PassPoint}
 use Rattle.sv_model.specs.declared.work.PassPoint.TheVariants.{Begin, Next, End}
 use Rattle.sv_model.specs.Declarations.{Pass}
 use Rattle.sv_model.specs.Passes.{pass_steps}
-use Rattle.sv_model.specs.Size.{step_size}
+use Rattle.sv_model.specs.Size.{step_size, capped}
 use Rattle.sv_lines.specs.declared.measure.PassSizes.{PassSizes}
-use Rattle.sv_lines.specs.Extents.{capped}
 
 -- a place at which an instance is measured
 abbrev pub anywhere : Here

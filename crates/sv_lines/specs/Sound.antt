@@ -9,14 +9,14 @@ use Rattle.sv_model.specs.declared.line.SemKind.{SemKind}
 use Rattle.sv_model.specs.declared.line.Mark.{Mark}
 use Rattle.sv_model.specs.declared.line.Recording.{Recording}
 use Rattle.sv_model.specs.declared.line.Trace.{Trace}
-use Rattle.sv_model.specs.Declarations.{Pass, said, says_event, says_signaled, kind_of, resource_of}
+use Rattle.sv_model.specs.Declarations.{Pass, said, says_event, says_signaled, semaphore_kind, resource_of}
 use Rattle.sv_model.specs.Declarations.{pass_of, is_pass, says_pass, recording_of}
 use Rattle.sv_model.specs.Recordings.{Scope, InPass, scope_after, lowered}
-use Rattle.sv_model.specs.Size.{step_size, call_size, recording_size, work_size}
+use Rattle.sv_model.specs.Size.{step_size, call_size, recording_size, work_size, capped}
 use Rattle.sv_lines.specs.declared.extent.Extent.{Extent}
 use Rattle.sv_lines.specs.declared.known.Known.{Known}
 use Rattle.sv_lines.specs.declared.measure.PassSizes.{PassSizes}
-use Rattle.sv_lines.specs.Extents.{as_resource, capped}
+use Rattle.sv_lines.specs.Extents.{as_resource}
 use Rattle.sv_lines.specs.Measures.{HasMeasure}
 use Rattle.sv_rules.specs.Standings.{standing_of}
 use Rattle.sv_rules.specs.Trace.{no_lines}
@@ -74,7 +74,7 @@ pub record DeclarationsAgree (t : Trace) (queue_table : BTreeMap ℕ (ℕ × ℕ
     (fence_table : BTreeMap ℕ Bool) (pass_table : BTreeMap ℕ ℕ) : Type 0 where
   pub queues : (n : ℕ) → get nat_cmp queue_table n ≡ queue_in t n
   pub resources : (n : ℕ) → option_map as_resource (get nat_cmp resource_table n) ≡ resource_of t n
-  pub semaphores : (n : ℕ) → get nat_cmp semaphore_table n ≡ kind_of t n
+  pub semaphores : (n : ℕ) → get nat_cmp semaphore_table n ≡ semaphore_kind t n
   pub events : (n : ℕ) → get nat_cmp event_table n ≡ said (says_event n) t.events
   pub fences : (n : ℕ) → get nat_cmp fence_table n ≡ said (says_signaled n) t.fences
   pub passes : (n : ℕ) → pass_at t.passes pass_table n ≡ said (says_pass n) t.passes

@@ -2,7 +2,7 @@
 ghost use Rattle.std.specs.Prelude.{◌≡◌, ◌+◌, ◌<◌, count_by, length};
 ghost use Rattle.sv_model.specs.declared.work.PassPoint.TheVariants as point;
 ghost use Rattle.sv_model.specs.Declarations.{Pass};
-ghost use Rattle.sv_lines.specs.Extents.{capped};
+ghost use Rattle.sv_model.specs.Size.{capped};
 ghost use Rattle.sv_lines.specs.Following as spec;
 ghost use Rattle.sv_lines.specs.Measures.{HasMeasure, IsSizeAt};
 

@@ -6,9 +6,8 @@ ghost use Rattle.sv_model.specs.declared.work.PassPoint.TheVariants as point;
 ghost use Rattle.sv_model.specs.Declarations.{Pass};
 ghost use Rattle.sv_model.specs.Plain.{ViewFits};
 ghost use Rattle.sv_model.specs.Passes.{pass_steps};
-ghost use Rattle.sv_model.specs.Size.{group_size, step_size};
+ghost use Rattle.sv_model.specs.Size.{group_size, step_size, capped};
 ghost use Rattle.sv_pass.specs.Begun.{IsBegun, pass_in};
-ghost use Rattle.sv_lines.specs.Extents.{capped};
 ghost use Rattle.sv_lines.specs.Measures.{IsMeasureOf, anywhere};
 
 use crate::sizes::{both, count};

@@ -1,7 +1,6 @@
 //! How much a call adds to the size of the whole work.
 ghost use Rattle.std.specs.Prelude.{◌≡◌, ◌+◌, ℕ, List, length, sum_by};
-ghost use Rattle.sv_model.specs.Size.{batch_size, fence_size};
-ghost use Rattle.sv_lines.specs.Extents.{capped};
+ghost use Rattle.sv_model.specs.Size.{batch_size, fence_size, capped};
 ghost use Rattle.sv_rules.specs.Taken.{size_in};
 ghost use Rattle.sv_rules.specs.Limits.{added_size};
 

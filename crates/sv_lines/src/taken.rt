@@ -1,8 +1,9 @@
 //! The lines taken so far, with tables of what they declare.
 ghost use Rattle.std.specs.Prelude.{◌≡◌, ◌≤◌, false, true, option_map, slice_get};
 ghost use Rattle.sv_model.specs.Declarations.{is_pass, pass_of, recording_of};
+ghost use Rattle.sv_model.specs.Size.{capped};
 ghost use Rattle.sv_rules.specs.Limits.{size_so_far};
-ghost use Rattle.sv_lines.specs.Extents.{as_resource, as_pass, capped};
+ghost use Rattle.sv_lines.specs.Extents.{as_resource, as_pass};
 ghost use Rattle.sv_lines.specs.Measures.{HasMeasure};
 ghost use Rattle.sv_rules.specs.Named.{is_new_queue, is_new_resource, is_new_semaphore, is_new_event};
 ghost use Rattle.sv_rules.specs.Named.{is_new_fence, is_new_pass, is_new_recording};

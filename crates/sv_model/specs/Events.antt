@@ -8,7 +8,7 @@ use Rattle.sv_model.specs.declared.work.Dep.{Dep}
 use Rattle.sv_model.specs.declared.work.Place.{Place}
 use Rattle.sv_model.specs.declared.work.Access.{Access}
 use Rattle.sv_model.specs.declared.work.Note.{Note}
-use Rattle.sv_model.specs.Processed.{InForce, EventChange, Made}
+use Rattle.sv_model.specs.Primitives.{InForce, EventChange, Made}
 use Rattle.sv_model.specs.Places.{Run, bind_group}
 use Rattle.sv_model.specs.declared.work.Note.TheVariants as note
 

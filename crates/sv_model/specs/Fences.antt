@@ -11,7 +11,7 @@ use Rattle.sv_model.specs.declared.work.Item.{Item}
 use Rattle.sv_model.specs.declared.work.Step.TheVariants.{Groups}
 use Rattle.sv_model.specs.declared.work.Note.{Note}
 use Rattle.sv_model.specs.Declarations.{is_declared_signaled, call_of}
-use Rattle.sv_model.specs.Processed.{FenceChange, Made}
+use Rattle.sv_model.specs.Primitives.{FenceChange, Made}
 use Rattle.sv_model.specs.Places.{Bound, Run}
 use Rattle.sv_model.specs.QueueGroups.{place_in, to_token}
 use Rattle.sv_model.specs.declared.work.FenceState.TheVariants as fence

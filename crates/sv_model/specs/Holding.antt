@@ -17,7 +17,7 @@ use Rattle.sv_model.specs.declared.work.Held.{Held}
 use Rattle.sv_model.specs.History.{batch_at}
 use Rattle.sv_model.specs.Semaphores.{signals_standing, served, batch_ready}
 use Rattle.sv_model.specs.Fences.{is_signaled}
-use Rattle.sv_model.specs.Processed.{Past}
+use Rattle.sv_model.specs.Primitives.{Past}
 use Rattle.sv_model.specs.Declarations.{call_of}
 use Rattle.sv_model.specs.declared.line.Mark.TheVariants as mark
 use Rattle.sv_model.specs.declared.work.Item.TheVariants as item

@@ -10,7 +10,7 @@ use Rattle.sv_model.specs.declared.work.FenceState.{FenceState}
 use Rattle.sv_model.specs.declared.work.Group.{Group}
 use Rattle.sv_model.specs.declared.work.Step.TheVariants.{Groups}
 use Rattle.sv_model.specs.Declarations.{queues_of}
-use Rattle.sv_model.specs.Processed.{Made}
+use Rattle.sv_model.specs.Primitives.{Made}
 use Rattle.sv_model.specs.Fences.{fence_state, fence_reset}
 use Rattle.sv_model.specs.Places.{Bound, Run}
 use Rattle.sv_model.specs.QueueGroups.{place_in, group_from, from_token}

@@ -15,8 +15,8 @@ use Rattle.sv_model.specs.declared.work.Group.{Group}
 use Rattle.sv_model.specs.declared.work.Step.TheVariants.{Groups}
 use Rattle.sv_model.specs.declared.work.Note.{Note}
 use Rattle.sv_model.specs.Declarations.{initial_value}
-use Rattle.sv_model.specs.Processed.{Signal, Made, Past}
-use Rattle.sv_model.specs.Gather.{gather}
+use Rattle.sv_model.specs.Primitives.{Signal, Made, Past}
+use Rattle.sv_model.specs.Lists.{gather}
 use Rattle.sv_model.specs.Places.{Bound, Run}
 use Rattle.sv_model.specs.QueueGroups.{place_in, from_token, to_token}
 use Rattle.sv_model.specs.declared.work.Note.TheVariants as note

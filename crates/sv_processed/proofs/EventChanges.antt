@@ -6,7 +6,7 @@ use Rattle.std.proofs.Common.{Some, None, length, refl, sym, ap, ◌∙◌}
 use Rattle.std.specs.List.{All, fold}
 use Rattle.sv_model.specs.Declarations.{initial_value, is_declared_signaled, is_fence}
 use Rattle.sv_model.specs.Events.{set_half, with_tokens, event_reset, event_set, in_force}
-use Rattle.sv_model.specs.Processed.{FenceChange, InForce, Made, Signal, EventChange}
+use Rattle.sv_model.specs.Primitives.{FenceChange, InForce, Made, Signal, EventChange}
 use Rattle.sv_model.specs.Fences.{fence_by}
 use Rattle.sv_model.specs.declared.line.Trace.{Trace}
 use Rattle.sv_model.specs.declared.work.Group.{Group}
@@ -179,9 +179,6 @@ turned_fits t event n set rest new old = by_test (event == n)
         (λ (x : EventChange). x.event == n) rest)) (λ (x : InForce). All (IsGroupOf t) x.groups)
     by_test true = new
     by_test false = old
-
-pub sets_after_reset : (t : Trace) (m : Made) (event : ℕ) → SetsFit t m → SetsFit t (event_reset m event)
-sets_after_reset t m event fit n = turned_fits t event n None m.events tt (fit n)
 
 pub sets_after_set : (t : Trace) (m : Made) (event queue : ℕ) (groups : List Group)
     → All (IsGroupOf t) groups → SetsFit t m → SetsFit t (event_set m event queue groups)

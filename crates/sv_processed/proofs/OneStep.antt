@@ -4,7 +4,7 @@ use Rattle.std.proofs.Common.{ℕ, ◌<◌, ◌≡◌, ◌^◌, List, [], ◌∷
 use Rattle.std.proofs.Common.{append_assoc}
 use Rattle.std.specs.List.{All}
 use Rattle.sv_model.specs.Places.{Bound}
-use Rattle.sv_model.specs.Processed.{Made}
+use Rattle.sv_model.specs.Primitives.{Made}
 use Rattle.sv_model.specs.Positions.{accesses_from, groups_from, numbered_step}
 use Rattle.sv_model.specs.declared.line.Trace.{Trace}
 use Rattle.sv_model.specs.declared.work.Access.{Access}
@@ -13,7 +13,7 @@ use Rattle.sv_model.specs.declared.work.Note.{Note}
 use Rattle.sv_model.specs.declared.work.Step.{Step}
 use Rattle.sv_model.specs.declared.work.Step.TheVariants.{Accesses, Groups}
 use Rattle.sv_space.specs.Steps.{IsNext}
-use Rattle.sv_step_laws.specs.Steps.{IsShortGroup}
+use Rattle.sv_model.specs.Size.{HasShortOlds}
 use Rattle.sv_step_laws.proofs.Areas.{numbered_is}
 use Rattle.sv_step_laws.proofs.Numbered.{is_next}
 use Rattle.sv_replies.specs.Replying.{IsOnNone, IsReplySoFar}
@@ -30,9 +30,9 @@ accesses_fit w accesses list n may same = subst (λ (xs : List Access). Fits w.c
     (is_next n (Accesses accesses)) (numbered_is may.trace n (Accesses accesses) may.step) tt)
 
 pub groups_fit : (w : Work) (groups list : List Group) (n : ℕ) → MayTake w (Groups groups) → list
-    ≡ groups_from n 0 groups → length list < 2 ^ 32 → All IsShortGroup list → Fits w.checks (Groups list)
+    ≡ groups_from n 0 groups → length list < 2 ^ 32 → All HasShortOlds list → Fits w.checks (Groups list)
 groups_fit w groups list n may same short olds =
-    let is = subst (λ (gs : List Group). All IsShortGroup gs) same olds in
+    let is = subst (λ (gs : List Group). All HasShortOlds gs) same olds in
     let few = subst (λ (gs : List Group). length gs < 2 ^ 32) same short in
     subst (λ (gs : List Group). Fits w.checks (Groups gs)) (sym same)
     (step_fits may.trace may.fits.lawful w.checks may.fits.areas n (Groups (groups_from n 0 groups))

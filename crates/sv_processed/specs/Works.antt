@@ -5,7 +5,7 @@ use Rattle.sv_model.specs.Places.{Bound}
 use Rattle.sv_model.specs.Binding.{bound, step_made}
 use Rattle.sv_model.specs.Events.{set_half, with_tokens, in_force}
 use Rattle.sv_model.specs.Lawful.{IsLawful}
-use Rattle.sv_model.specs.Processed.{InForce, Made}
+use Rattle.sv_model.specs.Primitives.{InForce, Made}
 use Rattle.sv_model.specs.Positions.{numbered_step}
 use Rattle.sv_model.specs.Work.{numbered}
 use Rattle.sv_model.specs.declared.work.Group.{Group}

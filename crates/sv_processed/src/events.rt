@@ -2,7 +2,7 @@
 ghost use Rattle.std.specs.Prelude.{ℕ, ◌≡◌, ◌∷◌, ◌++◌, [], List, IfOk, OnOk, length, map};
 ghost use Rattle.std.specs.List.{All};
 ghost use Rattle.sv_model.specs.Events as spec;
-ghost use Rattle.sv_model.specs.Processed.{Made};
+ghost use Rattle.sv_model.specs.Primitives.{Made};
 ghost use Rattle.sv_model.specs.Events.{event_set, in_force};
 ghost use Rattle.sv_model.specs.Work.{numbered};
 ghost use Rattle.sv_model.specs.declared.line.Trace.{Trace};

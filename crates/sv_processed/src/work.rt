@@ -3,7 +3,7 @@ ghost use Rattle.std.specs.Prelude.{ℕ, ◌≡◌, ◌∷◌, ◌++◌, [], Lis
 ghost use Rattle.std.specs.List.{All};
 ghost use Rattle.sv_model.specs.Places.{Bound};
 ghost use Rattle.sv_model.specs.Lawful.{IsLawful};
-ghost use Rattle.sv_model.specs.Processed.{Made, nothing_made};
+ghost use Rattle.sv_model.specs.Primitives.{Made, nothing_made};
 ghost use Rattle.sv_model.specs.declared.line.Trace.{Trace};
 ghost use Rattle.sv_model.specs.declared.work.Step.TheVariants as step;
 ghost use Rattle.sv_replies.specs.Replying.{IsOnNone};

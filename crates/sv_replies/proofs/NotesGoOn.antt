@@ -13,7 +13,7 @@ use Rattle.std.proofs.lemmas.List.Sums.{fold-append}
 use Rattle.sv_model.specs.Places.{Bound}
 use Rattle.sv_model.specs.Declarations.{has_owner}
 use Rattle.sv_model.specs.Cells.{alone, area_resource, cells_of}
-use Rattle.sv_model.specs.Gather.{gather}
+use Rattle.sv_model.specs.Lists.{gather}
 use Rattle.sv_model.specs.Layouts.{Claim, Moved, access_claim, claim_notes, claims_of, group_claims}
 use Rattle.sv_model.specs.Layouts.{layout_notes, moved_by, old_claim}
 use Rattle.sv_model.specs.Layouts as layouts
@@ -44,7 +44,7 @@ use Rattle.sv_model.specs.declared.work.Note.TheVariants as note
 use Rattle.sv_model.specs.declared.work.Step.{Step}
 use Rattle.sv_model.specs.declared.work.Step.TheVariants.{Accesses, Groups, SetEvent, WaitEvent, ResetEvent}
 use Rattle.sv_model.proofs.Growing.{gather-append}
-use Rattle.sv_model.proofs.Lists.{from_flat_map, in_cons, in_first}
+use Rattle.sv_model.proofs.Lists.{from_flat_map, in_cons, in_first, all_enumerated}
 use Rattle.sv_model.proofs.NoteGrowth.{enumerated}
 use Rattle.sv_replies.proofs.ReportsGoOn.{in_map, some_cell, IsBelow}
 
@@ -266,12 +266,6 @@ flat_map_all : {X Y : Type 0} (P : Y → Type 0) (Q : X → Type 0) (f : X → L
 flat_map_all P Q f each [] all = All-nil P
 flat_map_all P Q f each (x ∷ xs) all = All-append P (f x) (flat_map f xs) (each x (All-head Q x xs all))
     (flat_map_all P Q f each xs (All-tail Q x xs all))
-
-all_enumerated : {X : Type 0} (P : X → Type 0) (n : ℕ) (xs : List X) → All P xs
-    → All (λ (x : ℕ × X). P x.1) (enumerate_from n xs)
-all_enumerated {X} P n [] all = All-nil (λ (x : ℕ × X). P x.1)
-all_enumerated {X} P n (x ∷ xs) all = All-cons (λ (x : ℕ × X). P x.1) (n, x) (enumerate_from (n + 1) xs)
-    (All-head P x xs all) (all_enumerated P (n + 1) xs (All-tail P x xs all))
 
 abbrev Any : {X : Type 0} → X → Type 0
 Any x = Unit {0}

@@ -8,11 +8,12 @@ use Rattle.std.proofs.Math.Seq.{drop-cons}
 use Rattle.std.proofs.lemmas.List.{drop_all, length-take, drop-drop, take_rest}
 use Rattle.std.proofs.lemmas.List.Sums.{take_while-cons}
 use Rattle.std.proofs.lemmas.Bool.Decides.{nat_tests}
+use Rattle.sv_model.specs.Replies.{reports_before}
 use Rattle.sv_model.specs.declared.work.Note.{Note}
 use Rattle.sv_model.specs.declared.work.Report.{Report}
 use Rattle.sv_report.specs.Lines.{report_line}
 use Rattle.sv_report.specs.Notes.{note_line}
-use Rattle.sv_report.specs.Replies.{reports_before, due, entries}
+use Rattle.sv_report.specs.Replies.{due, entries}
 
 pub item_first : {X : Type 0} (xs : List X) (i : ℕ) (d : X) → i < length xs → drop i xs ≡ get_or xs i d
     ∷ drop (i + 1) xs

@@ -5,16 +5,9 @@ use Rattle.sv_model.specs.declared.work.Report.{Report}
 use Rattle.sv_model.specs.declared.work.Reply.{Reply}
 use Rattle.sv_model.specs.declared.work.Note.{Note}
 use Rattle.sv_model.specs.declared.work.Note.TheVariants as note
+use Rattle.sv_model.specs.Replies.{reports_before}
 use Rattle.sv_report.specs.Lines.{report_line}
 use Rattle.sv_report.specs.Notes.{note_line}
-
--- how many of the reply's reports stand before the note
-abbrev pub reports_before : Note → ℕ
-reports_before (note.Layout n) = n.reports_before
-reports_before (note.Owner n) = n.reports_before
-reports_before (note.Event n) = n.reports_before
-reports_before (note.Timeline n) = n.reports_before
-reports_before (note.Fence n) = n.reports_before
 
 -- the first of the notes, as far as no more than so many reports stand before them
 abbrev pub due : ℕ → List Note → List Note

@@ -1,8 +1,9 @@
 // The lines of a reply.
 ghost use Rattle.std.specs.Prelude.{◌≡◌, ◌++◌, OnOk, IfOk, length, string_bytes};
 ghost use Rattle.std.specs.List.{flat_map};
+ghost use Rattle.sv_model.specs.Replies.{reports_before};
 ghost use Rattle.sv_report.specs.Notes.{note_line};
-ghost use Rattle.sv_report.specs.Replies.{reports_before, due, entries, reply_text};
+ghost use Rattle.sv_report.specs.Replies.{due, entries, reply_text};
 
 use crate::lines::push_report;
 use crate::notes::push_note;

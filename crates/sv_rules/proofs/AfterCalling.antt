@@ -18,11 +18,12 @@ use Rattle.sv_model.specs.Holding.{is_published, are_published}
 use Rattle.sv_model.specs.History.{IsOfTrace, calls_of, call_by, published_by, call_of_mark, batches_in}
 use Rattle.sv_model.specs.Lawful.{IsLawfulCall, script_of, event_count}
 use Rattle.sv_model.specs.Size.{work_size, call_size}
+use Rattle.sv_model.proofs.Lists.{given_none, given_one}
 use Rattle.sv_rules.specs.Trace.{called, with_event}
 use Rattle.sv_rules.specs.SoFar.{IsAfterItsRecordings, IsAmong, IsLawfulSoFar, NamesAll}
 use Rattle.sv_rules.proofs.Growth.{Grows, call_kept}
 use Rattle.sv_rules.proofs.Lists.{Holds, givers_all, unequal, each_script, script_sum}
-use Rattle.sv_rules.proofs.Orders.{get_left, get_last, range_more, given_none, given_one, published_more}
+use Rattle.sv_rules.proofs.Orders.{get_left, get_last, range_more, published_more}
 use Rattle.sv_rules.proofs.Orders.{still_published, after_more}
 use Rattle.sv_rules.proofs.Sizes.{IsAsLarge, names_all, names_weaker, calls_same, found_size_same}
 use Rattle.sv_rules.proofs.SoFar.{recording_kept, found_lawful}

@@ -18,12 +18,13 @@ use Rattle.sv_model.specs.History.{IsOfTrace, publications_of, call_by, publishe
 use Rattle.sv_model.specs.LawfulCommands.{IsOutside}
 use Rattle.sv_model.specs.Lawful.{Differ, script_of, event_count}
 use Rattle.sv_model.specs.Size.{work_size}
+use Rattle.sv_model.proofs.Lists.{given_none, given_one}
 use Rattle.sv_rules.specs.Trace.{published}
 use Rattle.sv_rules.specs.SoFar.{IsAmong, IsLawfulSoFar, RecordingIsLawfulSoFar}
 use Rattle.sv_rules.proofs.Growth.{Grows, commands_kept, call_kept}
 use Rattle.sv_rules.proofs.Lists.{Holds, given_all, either, unequal, found_here, found_is, each_script}
 use Rattle.sv_rules.proofs.Lists.{script_sum}
-use Rattle.sv_rules.proofs.Orders.{given_none, given_one, published_more, still_published, after_more}
+use Rattle.sv_rules.proofs.Orders.{published_more, still_published, after_more}
 use Rattle.sv_rules.proofs.Passing.{same_number, none_at}
 use Rattle.sv_rules.proofs.Sizes.{IsAsLarge, names_all, names_weaker, calls_same, found_size_same}
 use Rattle.sv_rules.proofs.SoFar.{found_lawful}

@@ -17,7 +17,7 @@ use Rattle.sv_model.specs.declared.line.SemaphoreUse.{SemaphoreUse}
 use Rattle.sv_model.specs.declared.line.SemKind.{SemKind}
 use Rattle.sv_model.specs.declared.line.Trace.{Trace}
 use Rattle.sv_model.specs.Declarations.{QueueLine, Pass, empty_pass, said, says_event, says_signaled}
-use Rattle.sv_model.specs.Declarations.{says_pass, queue_of, resource_of, kind_of, is_event, is_fence}
+use Rattle.sv_model.specs.Declarations.{says_pass, queue_of, resource_of, semaphore_kind, is_event, is_fence}
 use Rattle.sv_model.specs.Declarations.{is_pass, pass_of, recording_of}
 use Rattle.sv_model.specs.Recordings.{Scope, Outside, InRendering, InPass, scope_after}
 use Rattle.sv_model.specs.LawfulParts.{IsInside, IsLawfulAccess, TargetIsLawful, IsLawfulElement}
@@ -35,7 +35,7 @@ Keeps {X} old new = (x : X) → old ≡ Some x → new ≡ Some x
 pub record Grows (t u : Trace) : Type 0 where
   pub queues : (n : ℕ) → Keeps (queue_of t n) (queue_of u n)
   pub resources : (n : ℕ) → Keeps (resource_of t n) (resource_of u n)
-  pub kinds : (n : ℕ) → Keeps (kind_of t n) (kind_of u n)
+  pub kinds : (n : ℕ) → Keeps (semaphore_kind t n) (semaphore_kind u n)
   pub events : (n : ℕ) → Keeps (said (says_event n) t.events) (said (says_event n) u.events)
   pub fences : (n : ℕ) → Keeps (said (says_signaled n) t.fences) (said (says_signaled n) u.fences)
   pub passes : (n : ℕ) → Keeps (said (says_pass n) t.passes) (said (says_pass n) u.passes)
@@ -203,8 +203,8 @@ commands_kept t u g family (c ∷ before) h = (
 -- Calls.
 
 use_kept : (t u : Trace) → Grows t u → (x : SemaphoreUse) → IsLawfulUse t x → IsLawfulUse u x
-use_kept t u g x h = kept (λ (o : Option SemKind). HasItsValue o x.value) (kind_of t x.sem)
-    (kind_of u x.sem) (λ none. none) (g.kinds x.sem) h
+use_kept t u g x h = kept (λ (o : Option SemKind). HasItsValue o x.value) (semaphore_kind t x.sem)
+    (semaphore_kind u x.sem) (λ none. none) (g.kinds x.sem) h
 
 batch_kept : (t u : Trace) → Grows t u → (family : ℕ) (b : Batch) → IsLawfulBatch t family b
     → IsLawfulBatch u family b

@@ -16,7 +16,7 @@ use Rattle.sv_model.specs.declared.line.SemKind.TheVariants.{Binary, Timeline}
 use Rattle.sv_model.specs.declared.line.SemaphoreUse.{SemaphoreUse}
 use Rattle.sv_model.specs.declared.line.Recording.{Recording}
 use Rattle.sv_model.specs.declared.line.Trace.{Trace}
-use Rattle.sv_model.specs.Declarations.{QueueLine, queue_of, kind_of, is_fence, recording_of}
+use Rattle.sv_model.specs.Declarations.{QueueLine, queue_of, semaphore_kind, is_fence, recording_of}
 use Rattle.sv_model.specs.LawfulParts.{HasItsValue, IsLawfulUse}
 use Rattle.sv_model.specs.Lawful.{HasItsInitial, IsOneUse, IsLawfulSubpass, IsLawfulPassDep, IsLawfulPass}
 use Rattle.sv_model.specs.Lawful.{HasFamily, IsLawfulBatch, IsFenceOrNone, IsQueueOf, BatchesAreLawful}
@@ -129,7 +129,7 @@ value_of (Some Binary) value n e = none_of value e
 use_lawful : (t : Trace) (u : SemaphoreUse) → is_of_new_semaphore t u ≡ false → is_wrong_use t u ≡ false
     → IsLawfulUse t u
 unfolding is_new_semaphore kind_in
-use_lawful t u n e = value_of (kind_of t u.sem) u.value n e
+use_lawful t u n e = value_of (semaphore_kind t u.sem) u.value n e
 
 family_same : (family : ℕ) (ended : Bool) (o : Option Recording) → is_none o ≡ false
     → (not ended || not (place.are_same (option_map (λ (r : Recording). r.family) o) (Some family))) ≡ false

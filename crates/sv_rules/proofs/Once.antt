@@ -10,7 +10,7 @@ use Rattle.sv_model.specs.declared.line.Line.{Line}
 use Rattle.sv_model.specs.declared.line.Line.TheVariants as line
 use Rattle.sv_model.specs.declared.line.Trace.{Trace}
 use Rattle.sv_model.specs.Declarations.{said, says_queue, says_resource, says_kind, says_event}
-use Rattle.sv_model.specs.Declarations.{says_signaled, says_pass, queue_of, resource_of, kind_of}
+use Rattle.sv_model.specs.Declarations.{says_signaled, says_pass, queue_of, resource_of, semaphore_kind}
 use Rattle.sv_model.specs.Lawful.{declared_number, Differ, AreOnce, IsLawfulQueue, IsLawfulResource}
 use Rattle.sv_model.specs.Lawful.{IsLawfulSemaphore, IsLawfulEventLine, IsLawfulFence, IsLawfulPassLine}
 use Rattle.sv_rules.specs.Named.{is_new_queue, is_new_resource, is_new_semaphore, is_new_event}
@@ -102,9 +102,9 @@ pub new_resource : (t : Trace) (n : ℕ) → not (is_new_resource t n) ≡ false
 unfolding is_new_resource
 new_resource t n e = not_given (resource_of t n) e
 
-pub new_semaphore : (t : Trace) (n : ℕ) → not (is_new_semaphore t n) ≡ false → kind_of t n ≡ None
+pub new_semaphore : (t : Trace) (n : ℕ) → not (is_new_semaphore t n) ≡ false → semaphore_kind t n ≡ None
 unfolding is_new_semaphore
-new_semaphore t n e = not_given (kind_of t n) e
+new_semaphore t n e = not_given (semaphore_kind t n) e
 
 pub new_event : (t : Trace) (n : ℕ) → not (is_new_event t n) ≡ false → said (says_event n) t.events ≡ None
 unfolding is_new_event

@@ -38,16 +38,6 @@ range_more n =
     ∙ map-range_with_len_more (λ k. k) 0 n n (omega arith)
     ∙ ap (λ ks. ks ++ n ∷ []) (map-id (range_with_len 0 n))
 
--- what one more element gives
-pub given_none : {X Y : Type 0} (h : X → Option Y) (xs : List X) (x : X) → h x ≡ None
-    → filter_map h (xs ++ x ∷ []) ≡ filter_map h xs
-given_none h xs x e = filter_map-append h xs (x ∷ []) ∙ ap (λ o. filter_map h xs ++ cons_option o []) e
-    ∙ append-nil (filter_map h xs)
-
-pub given_one : {X Y : Type 0} (h : X → Option Y) (xs : List X) (x : X) (y : Y) → h x ≡ Some y
-    → filter_map h (xs ++ x ∷ []) ≡ filter_map h xs ++ y ∷ []
-given_one h xs x y e = filter_map-append h xs (x ∷ []) ∙ ap (λ o. filter_map h xs ++ cons_option o []) e
-
 -- What is published.
 
 pub published_more : (marks : List Mark) (m : Mark) (k : ℕ) → is_published (marks ++ m ∷ []) k

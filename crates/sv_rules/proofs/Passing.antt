@@ -36,9 +36,6 @@ pub not_false : (b : Bool) → not b ≡ false → b ≡ true
 not_false true e = refl
 not_false false e = cc
 
-pub true_of : (b : Bool) → b ≡ true → IsTrue b
-true_of b e = e
-
 pub same_number : (m n : ℕ) → eqb m n ≡ true → m ≡ n
 same_number m n e = elim (eqb_tells m n) [
   | inl same ↦ same.1

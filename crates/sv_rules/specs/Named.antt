@@ -7,7 +7,8 @@ use Rattle.sv_model.specs.declared.line.Batch.{Batch}
 use Rattle.sv_model.specs.declared.line.SemaphoreUse.{SemaphoreUse}
 use Rattle.sv_model.specs.declared.line.Part.{Part}
 use Rattle.sv_model.specs.declared.line.Trace.{Trace}
-use Rattle.sv_model.specs.Declarations.{resource_of, kind_of, is_event, is_fence, is_pass, recording_of}
+use Rattle.sv_model.specs.Declarations.{resource_of, semaphore_kind, is_event, is_fence, is_pass}
+use Rattle.sv_model.specs.Declarations.{recording_of}
 use Rattle.sv_rules.specs.Taken.{queue_in, recording_at}
 use Rattle.sv_rules.specs.PartRules.{some_part}
 
@@ -20,7 +21,7 @@ unfoldable pub is_new_resource : Trace → ℕ → Bool
 is_new_resource t res = is_none (resource_of t res)
 
 unfoldable pub is_new_semaphore : Trace → ℕ → Bool
-is_new_semaphore t sem = is_none (kind_of t sem)
+is_new_semaphore t sem = is_none (semaphore_kind t sem)
 
 unfoldable pub is_new_event : Trace → ℕ → Bool
 is_new_event t event = not (is_event t event)

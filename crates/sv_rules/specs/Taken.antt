@@ -6,7 +6,8 @@ use Rattle.sv_model.specs.declared.line.Line.TheVariants as line
 use Rattle.sv_model.specs.declared.line.Recording.{Recording}
 use Rattle.sv_model.specs.declared.line.Trace.{Trace}
 use Rattle.sv_model.specs.declared.line.SemKind.{SemKind}
-use Rattle.sv_model.specs.Declarations.{QueueLine, Resource, Pass, queue_of, resource_of, kind_of, pass_of}
+use Rattle.sv_model.specs.Declarations.{QueueLine, Resource, Pass, queue_of, resource_of, semaphore_kind}
+use Rattle.sv_model.specs.Declarations.{pass_of}
 use Rattle.sv_model.specs.Declarations.{recording_of, commands_of}
 use Rattle.sv_model.specs.Holding.{is_published}
 use Rattle.sv_model.specs.Size.{recording_size}
@@ -60,7 +61,7 @@ unfoldable pub pass_in : Trace → ℕ → Pass
 pass_in t pass = pass_of t pass
 
 unfoldable pub kind_in : Trace → ℕ → Option SemKind
-kind_in t sem = kind_of t sem
+kind_in t sem = semaphore_kind t sem
 
 unfoldable pub resource_in : Trace → ℕ → Option Resource
 resource_in t res = resource_of t res

@@ -9,24 +9,8 @@ use Rattle.sv_model.specs.Reports.{Follows, IsRun}
 use Rattle.sv_model.specs.declared.work.Area.{Area}
 use Rattle.sv_model.specs.declared.work.Area.TheVariants.{Bytes, Image}
 use Rattle.sv_model.specs.declared.work.Cell.TheVariants.{Byte, Texel}
+use Rattle.sv_model.proofs.Lists.{range_split, span_split}
 use Rattle.sv_runs.specs.Joined.{joined_area}
-
--- a range in two parts
-pub ranges : (a m n : ℕ) → range_with_len a (m + n) ≡ range_with_len a m ++ range_with_len (a + m) n
-ranges a zero n = let e : zero + n ≡ n = omega arith in let f : a + zero ≡ a = omega arith in rw (e, f) refl
-ranges a (suc m) n =
-    let e : suc m + n ≡ suc (m + n) = omega arith in
-    let f : (a + 1) + m ≡ a + suc m = omega arith in
-    ap (range_with_len a) e ∙ ap (λ xs. a ∷ xs) (ranges (a + 1) m n
-    ∙ ap (λ k. range_with_len (a + 1) m ++ range_with_len k n) f)
-
-spans : (a b c : ℕ) → a < b → b < c → range_with_len a (c - a) ≡ range_with_len a (b - a)
-    ++ range_with_len b (c - b)
-spans a b c h k =
-    let e : c - a ≡ (b - a) + (c - b) = omega arith in
-    let f : a + (b - a) ≡ b = omega arith in
-    ap (range_with_len a) e ∙ ranges a (b - a) (c - b)
-    ∙ ap (λ k. range_with_len a (b - a) ++ range_with_len k (c - b)) f
 
 -- the cells of an image's box of one mip
 row : (res mip n layer layers : ℕ) → n ≡ 1 → flat_map
@@ -39,7 +23,8 @@ pub cells_joined : (a b : Area) → IsRun a → IsRun b → Follows a b → cell
     ++ cells_of b
 unfolding cells_of
 cells_joined (Bytes res span) (Bytes r next) h k f =
-    let e = spans span.start span.end next.end h (subst (λ (n : ℕ). n < next.end) (sym f.1) k) in
+    let l = subst (λ (n : ℕ). n < next.end) (sym f.1) k in
+    let e = span_split span.start span.end next.end (omega (arith, h)) (omega (arith, l)) in
     ap (map (λ at. Byte res at)) e
     ∙ map-append (λ at. Byte res at) (range_with_len span.start (span.end - span.start))
     (range_with_len span.end (next.end - span.end))
@@ -48,7 +33,7 @@ cells_joined (Bytes res span) (Bytes r next) h k f =
     (let q : (res, span.end) ≡ (r, next.start) = cc in q)
 cells_joined (Image res box) (Image r next) h k f =
     row res box.mip box.mips box.layer (box.layers + next.layers) h.0
-    ∙ ap (map (λ l. Texel res box.mip l)) (ranges box.layer box.layers next.layers)
+    ∙ ap (map (λ l. Texel res box.mip l)) (range_split box.layer box.layers next.layers)
     ∙ map-append (λ l. Texel res box.mip l) (range_with_len box.layer box.layers)
     (range_with_len (box.layer + box.layers) next.layers)
     ∙ ap (λ (p : ℕ × ℕ × ℕ). map (λ l. Texel res box.mip l) (range_with_len box.layer box.layers)

@@ -84,17 +84,6 @@ pub record AreAdded (reports : List Report) (i : ℕ) (grouped : List Report) (n
   pub moves : AllPairs IsNotLater reports → (step : ℕ)
       → get_or numbers (reports_up_to (take i reports) step) 0 ≡ reports_up_to grouped step
 
-pub none_added : (reports grouped : List Report) (numbers : List ℕ) → grouped ≡ [] → numbers ≡ 0 ∷ []
-    → AreAdded reports 0 grouped numbers
-none_added reports grouped numbers g n = record {
-  runs = subst AreRuns (sym g) runs_none;
-  whole = ap spots_of g;
-  long = ap length n;
-  bound = λ step all. subst (All (IsUpTo step)) (sym g) (All-nil (IsUpTo step));
-  moves = λ ord step. ap (λ (ns : List ℕ). get_or ns 0 0) n
-      ∙ sym (ap (λ (rs : List Report). reports_up_to rs step) g);
-}
-
 get_or_any : (rs : List Report) (i : ℕ) (d e : Report) → i < length rs → get_or rs i d ≡ get_or rs i e
 get_or_any [] i d e lt = absurd (omega (arith, lt))
 get_or_any (r ∷ rs) zero d e lt = refl

@@ -3,7 +3,7 @@ use Rattle.std.specs.Prelude.{ℕ, ◌≡◌, ◌≤◌, Contains, List, map}
 use Rattle.std.specs.List.{AllPairs}
 use Rattle.sv_model.specs.Cells.{EndsSmall}
 use Rattle.sv_model.specs.Notes.{AreGreatestNotes, IsNoteRun, cells_of_notes, notes_in}
-use Rattle.sv_model.specs.Replies.{IsReportedIn, among, note_behind, reports_up_to}
+use Rattle.sv_model.specs.Replies.{IsReportedIn, among, note_behind, reports_up_to, reports_before}
 use Rattle.sv_model.specs.Reports.{AreGreatestRuns, IsRun, Spot, SpotBefore, spots_of}
 use Rattle.sv_model.specs.declared.line.Mark.{Mark}
 use Rattle.sv_model.specs.declared.line.Trace.{Trace}
@@ -12,14 +12,6 @@ use Rattle.sv_model.specs.declared.work.Note.TheVariants as note
 use Rattle.sv_model.specs.declared.work.Reply.{Reply}
 use Rattle.sv_model.specs.declared.work.Report.{Report}
 use Rattle.sv_runs.specs.Joined.{EndsWithin}
-
--- how many of the reply's reports stand before the note
-abbrev pub reports_before : Note → ℕ
-reports_before (note.Layout n) = n.reports_before
-reports_before (note.Owner n) = n.reports_before
-reports_before (note.Event n) = n.reports_before
-reports_before (note.Timeline n) = n.reports_before
-reports_before (note.Fence n) = n.reports_before
 
 -- the note, which stood behind so many reports, behind as many as they now are
 abbrev pub moved : (ℕ → ℕ) → Note → Note

@@ -1,9 +1,9 @@
 // Notes behind the reports of a reply that was grouped.
 ghost use Rattle.std.specs.Prelude.{◌≡◌, ℕ, All, IfOk, get_or, map};
 ghost use Rattle.sv_model.specs.Notes.{cells_of_notes, IsNoteRun};
-ghost use Rattle.sv_model.specs.Replies.{note_behind};
+ghost use Rattle.sv_model.specs.Replies.{note_behind, reports_before};
 ghost use Rattle.sv_runs.specs.Joined.{AreNoteRuns, EndsWithin};
-ghost use Rattle.sv_runs.specs.Grouped.{HasNoteRun, moved, reports_before};
+ghost use Rattle.sv_runs.specs.Grouped.{HasNoteRun, moved};
 
 use crate::notes::add_note;
 use std::alloc::{AllocError, Global};

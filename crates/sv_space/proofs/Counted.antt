@@ -4,7 +4,7 @@ use Rattle.std.proofs.Common.{◌∙◌, ap}
 use Rattle.std.specs.Prelude.{sum_by}
 use Rattle.std.proofs.lemmas.List.{take_all}
 use Rattle.std.proofs.lemmas.List.Sums.{sum_by_more}
-use Rattle.sv_space.specs.Counts.{capped}
+use Rattle.sv_model.specs.Size.{capped}
 
 capped_sum : (a b : ℕ) → min (capped a + b) (2 ^ 64 - 1) ≡ capped (a + b)
 capped_sum a b = grind arith

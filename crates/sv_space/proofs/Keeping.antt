@@ -53,27 +53,6 @@ gone_none at state = record {
   up_to = λ n le all. le;
 }
 
-pub gone_more : (at : Cell) (gs : List Group) (g : Group) (old : Contents) (mid new : CellState)
-    → HasGone at gs old (contents_of mid) → HasGrown at g mid new
-    → HasGone at (gs ++ g ∷ []) old (contents_of new)
-gone_more at gs g old mid new gone grows = record {
-  stands = λ story epoch alike st. (
-      let first = gone.stands story epoch (λ h on. alike h (Contains-append_left gs (g ∷ []) h on)) st mid
-      refl in
-      let last = grows.stands (extended story (dependencies gs)) epoch
-      (alike g (Contains-append_right gs (g ∷ []) g (0, omega arith, refl))) first in
-      let ds : dependencies (gs ++ g ∷ []) ≡ dependencies gs ++ placed g =
-      flat_map-append placed gs (g ∷ []) ∙ ap (λ (xs : List Placed). dependencies gs ++ xs)
-      (append-nil (placed g)) in
-      subst (λ (xs : List Placed). StandsFor (record
-      { cell = story.cell; accesses = story.accesses; deps = xs }) epoch (contents_of new))
-      (append_assoc story.deps (dependencies gs) (placed g)
-      ∙ ap (λ (xs : List Placed). story.deps ++ xs) (sym ds))
-      (stands_of (extended (extended story (dependencies gs)) (placed g)) epoch new last));
-  up_to = λ n le all. (let s = grows.step in let b =
-      all g (Contains-append_right gs (g ∷ []) g (0, omega arith, refl)) in omega (arith, s, b));
-}
-
 -- the groups of a numbered work are of its steps
 pub group_below : (work : List Step) → AreNumbered work → (g : Group) → Contains (groups_in work) g → g.step
     < length work
@@ -208,19 +187,6 @@ module _ (work : List Step) (step : Step) (are : AreNumbered work)
             (let e : ((story_of work c).accesses, take upto (groups_in work))
             ≡ ((story_of more c).accesses, take upto (groups_in more)) = cc in e)
 
--- two pieces with one state, which was given all groups
-pub known_joined : (work : List Step) (First Second All : Cell → Type 0) (state : Contents)
-    → ((c : Cell) → All c → First c ⊎ Second c) → AreKnown work First (length (groups_in work)) state
-    → AreKnown work Second (length (groups_in work)) state
-    → AreKnown work All (length (groups_in work)) state
-known_joined work First Second All state cover first second = record {
-  within = first.within;
-  up_to = first.up_to;
-  after = first.after;
-  each = λ c h. elim (cover c h) [ inl f ↦ first.each c f | inr s ↦ second.each c s ];
-  alike = λ c e h i g on. absurd (nothing_left (groups_in work) g on);
-}
-
 -- before any work
 pub known_before : (Holds : Cell → Type 0) (state : Contents) → state.step ≡ 0
     → ((cell : Cell) → StandsFor (record { cell = cell; accesses = []; deps = [] }) 0 state)
@@ -232,26 +198,6 @@ known_before Holds state step stands = record {
   each = λ c h. record { epoch = 0; current = current_start c; stands = stands c };
   alike = λ c e h i g on. absurd (let k = on.1 in omega arith);
 }
-
--- one group more, in the order of steps
-pub gone_next : (at : Cell) (groups : List Group) (i : ℕ) (g : Group) (old : Contents) (mid new : CellState)
-    → i < length groups → get_or groups i g ≡ g → MayFollow old.step groups
-    → HasGone at (take i groups) old (contents_of mid) → (mid.step ≤ g.step → HasGrown at g mid new)
-    → HasGone at (take (i + 1) groups) old (contents_of new)
-gone_next at groups i g old mid new lt is may gone grows =
-    let le : mid.step ≤ g.step = gone.up_to g.step (may.after g (i, lt, is)) (λ h on. earlier h on) in
-    subst (λ (gs : List Group). HasGone at gs old (contents_of new))
-    (sym (take_more groups i g lt ∙ ap (λ (h : Group). take i groups ++ h ∷ []) is))
-    (gone_more at (take i groups) g old mid new gone (grows le))
-  where
-    earlier : (h : Group) → Contains (take i groups) h → h.step ≤ g.step
-    earlier h (j, j_lt, j_is) =
-        let short : length (take i groups) ≤ i = (let l = length-take i groups in omega (arith, l)) in
-        let j_less : j < i = omega (arith, j_lt, short) in
-        let at_j : get_or groups j h ≡ h = sym (get_or-take i groups j h j_less) ∙ j_is in
-        let at_i : get_or groups i h ≡ g = get_or_default groups i h g lt ∙ is in
-        subst (λ (x : Group). x.step ≤ g.step) at_j
-        (subst (λ (y : Group). (get_or groups j h).step ≤ y.step) at_i (may.in_order j i h j_less lt))
 
 pub pairs_append : {X : Type 0} (R : X → X → Type 0) (xs ys : List X) → AllPairs R xs → AllPairs R ys
     → ((x y : X) → Contains xs x → Contains ys y → R x y) → AllPairs R (xs ++ ys)

@@ -9,13 +9,14 @@ use Rattle.std.proofs.lemmas.List.Sums.{sum_by_more}
 use Rattle.sv_model.specs.Cells.{covers}
 use Rattle.sv_model.specs.Order.{Story}
 use Rattle.sv_model.specs.Reports.{accesses_of, on_cell, story_of}
+use Rattle.sv_model.specs.Size.{capped}
 use Rattle.sv_model.specs.declared.work.Access.{Access}
 use Rattle.sv_model.specs.declared.work.Cell.{Cell}
 use Rattle.sv_model.specs.declared.work.Step.{Step}
 use Rattle.sv_model.proofs.Lists.{in_filter, in_flat_map}
 use Rattle.sv_rangemap.specs.declared.part.Part.{Part}
 use Rattle.sv_state.specs.States.{IsBounded}
-use Rattle.sv_space.specs.Counts.{capped, pieces_on}
+use Rattle.sv_space.specs.Counts.{pieces_on}
 use Rattle.sv_space.specs.KeptLaws.{IsBoundedStep, IsBoundedWork}
 use Rattle.sv_space.specs.Known.{cut_story}
 use Rattle.sv_space.specs.Lines.{cell_on}

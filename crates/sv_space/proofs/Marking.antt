@@ -17,17 +17,6 @@ use Rattle.sv_space.specs.declared.shape.Shape.{Shape}
 less_or_same : (a b : ℕ) → a < b + 1 → (a < b) ⊎ (a ≡ b)
 less_or_same a b lt = grind arith
 
--- an earlier access touches the piece
-pub mark_busy : (accesses : List Access) (groups : List Group) (number res : ℕ) (s : Shape)
-    (old new : Part Known) → new ≡ old → (IsFree (take number accesses) res s old.span.start → ⊥)
-    → IsMarked accesses groups number res s old new
-mark_busy accesses groups number res s old new same busy = record {
-  span = ap (λ (p : Part Known). p.span) same;
-  upto = ap (λ (p : Part Known). p.value.upto) same;
-  busy = λ x on covered. same;
-  recorded = λ work step is upto free. absurd (busy free);
-}
-
 pub same_mark : (accesses : List Access) (groups : List Group) (number res r : ℕ) (s t : Shape)
     (old new : Part Known) → r ≡ res → t ≡ s → IsMarked accesses groups number r t old new
     → IsMarked accesses groups number res s old new

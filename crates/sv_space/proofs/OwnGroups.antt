@@ -171,11 +171,6 @@ own_at work steps (SetEvent event place groups) next cell x on d in_own = absurd
 own_at work steps (WaitEvent event place) next cell x on d in_own = absurd (let h = on.1 in omega arith)
 own_at work steps (ResetEvent event place) next cell x on d in_own = absurd (let h = on.1 in omega arith)
 
--- looking a group up, one after another
-pub own_first : (g : Group) (groups : List Group) (n : ℕ) → n < length g.transitions
-    → own_group (g ∷ groups) n ≡ Some g
-own_first g groups n lt = here_is g groups n lt
-
 pub own_here : (groups : List Group) (i n : ℕ) (g : Group) → i < length groups → get_or groups i g ≡ g → n
     < length g.transitions → own_group (drop i groups) n ≡ Some g
 own_here (h ∷ groups) zero n g lt is less = subst (λ (y : Group). own_group (h ∷ groups) n ≡ Some y) is
@@ -194,14 +189,3 @@ own_later (h ∷ groups) (suc i) n g lt is le = let s : suc i + 1 ≡ suc (i + 1
     ≡ own_group (drop m (h ∷ groups)) (n - length g.transitions)) (sym s)
     (own_later groups i n g (omega arith) is le)
 own_later [] i n g lt is le = absurd (omega arith)
-
-pub own_last : (groups : List Group) (i n : ℕ) → length groups ≤ i → own_group (drop i groups) n ≡ None
-own_last groups i n le = ap (λ (gs : List Group). own_group gs n) (drop_all i groups le)
-
--- the transitions of one group more
-pub transitions_more : (groups : List Group) (i : ℕ) (g : Group) → i < length groups → get_or groups i g ≡ g
-    → all_transitions (take (i + 1) groups) ≡ all_transitions (take i groups) ++ g.transitions
-transitions_more groups i g lt is =
-    ap all_transitions (take_more groups i g lt ∙ ap (λ (h : Group). take i groups ++ h ∷ []) is)
-    ∙ flat_map-append (λ (h : Group). h.transitions) (take i groups) (g ∷ [])
-    ∙ ap (λ (xs : List Access). all_transitions (take i groups) ++ xs) (append-nil g.transitions)

@@ -41,13 +41,6 @@ outlines_next outlines deps i d lt here has f on =
       | inr is ↦ subst (λ (e : Dep). Contains outlines (outline e)) is here
     ]
 
--- the same where it stands at the dependency's place
-pub outlines_here : (outlines deps : List Dep) (i : ℕ) (o d : Dep) → i < length outlines → i < length deps
-    → get_or outlines i o ≡ outline (get_or deps i d) → HasOutlines outlines (take i deps)
-    → HasOutlines outlines (take (i + 1) deps)
-outlines_here outlines deps i o d lt within is has = outlines_next outlines deps i d within
-    (subst (λ (e : Dep). Contains outlines e) is (Contains-get_or outlines i o lt)) has
-
 -- the outline of one dependency more comes to the list
 pub outlines_pushed : (outlines deps : List Dep) (i : ℕ) (d : Dep) → i < length deps
     → HasOutlines outlines (take i deps) → HasOutlines (outlines ++ outline (get_or deps i d) ∷ [])
@@ -77,31 +70,11 @@ outlines_of_one patterns number q p outlines deps all lt is same has =
     subst (λ (os : List Dep). HasOutlines os all) here
     (subst (λ (ds : List Dep). HasOutlines outlines ds) same has)
 
-pub more_none : (patterns : List Pattern) → AreMore patterns patterns
-more_none patterns = record { long = omega arith; same = λ k p lt. refl }
-
-pub more_pushed : (patterns : List Pattern) (p : Pattern) → AreMore patterns (patterns ++ p ∷ [])
-more_pushed patterns p = record {
-  long = (let l = length-append patterns (p ∷ []) in omega (arith, l));
-  same = λ k q lt. get_or_append_left patterns (p ∷ []) q k lt;
-}
-
 pub has_pushed : (patterns : List Pattern) (new : Pattern) (deps : List Dep) (p : Pattern)
     → HasOutlines new.outlines.items deps → HasOutlines
     (get_or (patterns ++ new ∷ []) (length patterns) p).outlines.items deps
 has_pushed patterns new deps p has = subst (λ (q : Pattern). HasOutlines q.outlines.items deps)
     (sym (at_end patterns new (length patterns) p refl)) has
-
-pub longer_pushed : (patterns : List Pattern) (p : Pattern) → length patterns < length (patterns ++ p ∷ [])
-longer_pushed patterns p = let l = length-append patterns (p ∷ []) in omega (arith, l)
-
--- a number that no pattern has
-pub of_none : (patterns : List Pattern) (number : ℕ) (deps : List Dep) → most ≤ number
-    → IsPatternOf patterns number deps
-of_none patterns number deps over = record {
-  listed = λ small. absurd (omega (arith, small, over));
-  has = λ p small. absurd (omega (arith, small, over));
-}
 
 pub of_one : (patterns : List Pattern) (number : ℕ) (deps : List Dep) → number < length patterns
     → ((p : Pattern) → HasOutlines (get_or patterns number p).outlines.items deps)
@@ -128,9 +101,6 @@ pub of_new : (old new : List Pattern) (number : ℕ) (deps : List Dep) → numbe
     → IsPatternOf new number deps
 of_new old new number deps is longer has = of_one new number deps (omega (arith, is, longer))
     (λ p. subst (λ k. HasOutlines (get_or new k p).outlines.items deps) (sym is) (has p))
-
-pub next_block : (place n : ℕ) → place ≤ 64 * n → n ≤ place / 64 → place / 64 ≡ n
-next_block place n room over = omega arith
 
 -- a block with a member more in one of its sets
 pub all_with_pattern : (block new : Block) (member : ℕ) → new.patterns ≡ bit_or block.patterns (2 ^ member)
@@ -167,34 +137,6 @@ told_place block new spot number over is = record {
 
 pub has_all : (block : Block) → HasAll block block
 has_all block = record { patterns = λ n h. h; lone = λ n h. h }
-
--- the block at this place has more
-pub kept_set : (blocks : List Block) (at : ℕ) (old new : Block) → at < length blocks
-    → old ≡ get_or blocks at old → HasAll old new → KeepMarks blocks (set blocks at new)
-kept_set blocks at old new lt here more k e within = elim (eqb_tells k at) [
-  | inl w ↦ (
-      let was : get_or blocks k e ≡ old = ap (λ i. get_or blocks i e) w.1
-      ∙ (get_or_default blocks at e old lt ∙ sym here) in
-      let now : get_or (set blocks at new) k e ≡ new = get_or-set_at blocks at k new e w.1 lt in
-      subst (λ (b : Block). HasAll b (get_or (set blocks at new) k e)) (sym was)
-      (subst (λ (b : Block). HasAll old b) (sym now) more))
-  | inr w ↦ subst (λ (b : Block). HasAll (get_or blocks k e) b)
-      (sym (get_or-set_other blocks at k new e w.1)) (has_all (get_or blocks k e))
-]
-
-pub kept_pushed : (blocks : List Block) (new : Block) → KeepMarks blocks (blocks ++ new ∷ [])
-kept_pushed blocks new k e within = subst (λ (b : Block). HasAll (get_or blocks k e) b)
-    (sym (get_or_append_left blocks (new ∷ []) e k within)) (has_all (get_or blocks k e))
-
-pub told_set : (blocks : List Block) (at spot number : ℕ) (e new : Block) → at < length blocks
-    → Tells new spot number → Tells (get_or (set blocks at new) at e) spot number
-told_set blocks at spot number e new lt told = subst (λ (b : Block). Tells b spot number)
-    (sym (get_or-set_at blocks at at new e refl lt)) told
-
-pub told_pushed : (blocks : List Block) (at spot number : ℕ) (e new : Block) → at ≡ length blocks
-    → Tells new spot number → Tells (get_or (blocks ++ new ∷ []) at e) spot number
-told_pushed blocks at spot number e new end told = subst (λ (b : Block). Tells b spot number)
-    (sym (at_end blocks new at e end)) told
 
 -- the members of a set that come before the lowest of those from one on
 pub clear_below : (known from rest count k : ℕ) → from < 64 → rest ≡ known / 2 ^ from → rest < 2 ^ 64

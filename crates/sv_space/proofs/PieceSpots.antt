@@ -4,7 +4,7 @@ use Rattle.std.proofs.Common.{inr, map, arith, refl, sym, ◌∙◌, ap, subst, 
 use Rattle.std.specs.List.{AllPairs, range_with_len}
 use Rattle.sv_model.specs.Cells.{covers, CellBefore, EndsSmall}
 use Rattle.sv_model.specs.Dependencies.{Placed, writes}
-use Rattle.sv_model.specs.Order.{Story, IsClear, IsPartner, IsBelow, NoRaces, kind_of, extended}
+use Rattle.sv_model.specs.Order.{Story, IsClear, IsPartner, IsBelow, NoRaces, conflict_kind, extended}
 use Rattle.sv_model.specs.Reports.{Spot, SpotBefore, IsRun, spots, story_of, groups_of, accesses_of}
 use Rattle.sv_model.specs.Reports.{IsReported, IsReportedFrom, AreNumbered}
 use Rattle.sv_model.proofs.Lists.{in_filter, in_first, in_cons, in_cons_cases}
@@ -121,7 +121,7 @@ module _ (work : List Step) (steps : AreInOrder work) (step : Step) (next : IsNe
   pub some_spots : (a : Access) (kind : Kind) → span.start < span.end → IsInMip s span
       → ((story : Story) (epoch : ℕ) → StandsFor story epoch state → NoRaces story epoch
       → IsBelow x.step story → IsTrue (covers x.area story.cell)
-      → IsPartner (extended story own) epoch x a × (kind ≡ kind_of (writes a.what) (writes x.what)))
+      → IsPartner (extended story own) epoch x a × (kind ≡ conflict_kind (writes a.what) (writes x.what)))
       → ArePieceSpots work step res s span x (spots
       (record { area = area_on res s span; later = x; earlier = a; kind = kind }))
   some_spots a kind order in_mip check = subst (λ (ts : List Spot). ArePieceSpots work step res s span x ts)
@@ -132,7 +132,8 @@ module _ (work : List Step) (steps : AreInOrder work) (step : Step) (next : IsNe
               at = (let e = here r.0 (r.1) (let h = r.2 in omega (arith, h, order)) in omega (arith, e));
               reported = partner_reported work steps step next (cell_on res s r.0)
                   (known.each (cell_on res s r.0) (of r.0 r.1 (let h = r.2 in omega (arith, h, order)))).epoch
-                  (known.each (cell_on res s r.0) (of r.0 r.1 (let h = r.2 in omega (arith, h, order)))).current
+                  (known.each (cell_on res s r.0)
+                  (of r.0 r.1 (let h = r.2 in omega (arith, h, order)))).current
                   x
                   (on (cell_on res s r.0) (of r.0 r.1 (let h = r.2 in omega (arith, h, order)))) a kind
                   (partner (cell_on res s r.0) (of r.0 r.1 (let h = r.2 in omega (arith, h, order))))
@@ -176,7 +177,7 @@ module _ (work : List Step) (steps : AreInOrder work) (step : Step) (next : IsNe
           (known.each c h).epoch x a) same_own (check (story_of work c) (known.each c h).epoch (stands c h)
           (known.each c h).current.clean (below c h) (touched c h)).0
 
-      kind_at : (c : Cell) → IsOf res s span c → kind ≡ kind_of (writes a.what) (writes x.what)
+      kind_at : (c : Cell) → IsOf res s span c → kind ≡ conflict_kind (writes a.what) (writes x.what)
       kind_at c h = (check (story_of work c) (known.each c h).epoch (stands c h)
           (known.each c h).current.clean (below c h) (touched c h)).1
 

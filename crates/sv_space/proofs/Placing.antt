@@ -8,6 +8,7 @@ use Rattle.std.proofs.lemmas.List.Elements.{Contains-append_cases}
 use Rattle.std.proofs.lemmas.List.FromFn.{get_or-range_with_len, length-range_with_len}
 use Rattle.sv_model.specs.Cells.{covers}
 use Rattle.sv_model.specs.declared.work.Area.{Area}
+use Rattle.sv_model.proofs.Lists.{range_split}
 use Rattle.sv_range.specs.Lines.{InSome}
 use Rattle.sv_range.specs.Spans.{EndsBefore, InSpan}
 use Rattle.sv_range.specs.declared.span.Span.{Span}
@@ -19,7 +20,6 @@ use Rattle.sv_space.specs.Lines.{cell_on}
 use Rattle.sv_space.specs.Places.{AreListed}
 use Rattle.sv_space.specs.declared.known.Known.{Known}
 use Rattle.sv_space.specs.declared.shape.Shape.{Shape}
-use Rattle.sv_runs.proofs.JoinedAreas.{ranges}
 use Rattle.sv_space.proofs.Keeping.{pairs_append}
 
 below_or : (c n : ℕ) → (c < n) ⊎ (n ≤ c)
@@ -34,7 +34,7 @@ pub push_number : (a b n : ℕ) → a ≤ n → n + 1 ≡ b → range_with_len a
 push_number a b n le is =
     let e : b - a ≡ (n - a) + 1 = omega (arith, le, is) in
     let f : a + (n - a) ≡ n = omega (arith, le) in
-    ap (range_with_len a) e ∙ ranges a (n - a) 1 ∙ ap (λ k. range_with_len a (n - a) ++ k ∷ []) f
+    ap (range_with_len a) e ∙ range_split a (n - a) 1 ∙ ap (λ k. range_with_len a (n - a) ++ k ∷ []) f
 
 pub no_numbers : (a n : ℕ) → n ≤ a → range_with_len a (n - a) ≡ []
 no_numbers a n le = let e : n - a ≡ 0 = omega (arith, le) in ap (range_with_len a) e

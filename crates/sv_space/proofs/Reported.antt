@@ -5,7 +5,7 @@ use Rattle.std.specs.List.{AllPairs}
 use Rattle.std.proofs.lemmas.List.Elements.{Contains-append_left, Contains-append_right}
 use Rattle.std.proofs.lemmas.List.Elements.{Contains-append_cases}
 use Rattle.sv_model.specs.Dependencies.{Placed, writes}
-use Rattle.sv_model.specs.Order.{Story, NotLater, IsBelow, IsClear, IsPartner, kind_of, grown, extended}
+use Rattle.sv_model.specs.Order.{Story, NotLater, IsBelow, IsClear, IsPartner, conflict_kind, grown, extended}
 use Rattle.sv_model.specs.Reports.{Spot, SpotBefore, story_of, groups_of, IsCurrent, AreNumbered}
 use Rattle.sv_model.specs.Reports.{IsReported, IsReportedFrom, AreReportsFrom}
 use Rattle.sv_model.proofs.Current.{AreAt, reported_new, reported_only}
@@ -72,7 +72,7 @@ module _ (work : List Step) (steps : AreInOrder work) (step : Step) (next : IsNe
 
   -- where x races, the spot with its partner is reported
   pub partner_reported : (a : Access) (kind : Kind) → IsPartner (extended story own) epoch x a → kind
-      ≡ kind_of (writes a.what) (writes x.what) → IsReported (story_of more cell) x a kind
+      ≡ conflict_kind (writes a.what) (writes x.what) → IsReported (story_of more cell) x a kind
   partner_reported a kind partner of_kind =
       let p = partner_seen story (accesses_on step cell) own (deps_of step)
       (length work) at own_here x here alike epoch a partner in
@@ -104,7 +104,7 @@ module _ (work : List Step) (steps : AreInOrder work) (step : Step) (next : IsNe
 
   -- and no other
   pub partner_alone : (a b : Access) (kind other : Kind) → IsPartner (extended story own) epoch x a → kind
-      ≡ kind_of (writes a.what) (writes x.what) → IsReported (story_of more cell) x b other → (b ≡ a)
+      ≡ conflict_kind (writes a.what) (writes x.what) → IsReported (story_of more cell) x b other → (b ≡ a)
       × (other ≡ kind)
   partner_alone a b kind other partner of_kind r =
       let p = partner_seen story (accesses_on step cell) own (deps_of step)
@@ -115,7 +115,7 @@ module _ (work : List Step) (steps : AreInOrder work) (step : Step) (next : IsNe
       let back = λ (c : Access) (q : IsPartner longer epoch x c). subst
       (λ (t : Story). IsPartner t epoch x c) (sym longer_is) q in
       let same : b ≡ a = partner_unique b a (back b now.1) (back a p) in
-      (same, now.2 ∙ ap (λ (c : Access). kind_of (writes c.what) (writes x.what)) same ∙ sym of_kind)
+      (same, now.2 ∙ ap (λ (c : Access). conflict_kind (writes c.what) (writes x.what)) same ∙ sym of_kind)
 
 -- nothing is looked at yet
 pub found_none : (first : ℕ) (work : List Step) (IsPast : Spot → Type 0)

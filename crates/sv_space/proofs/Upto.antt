@@ -6,6 +6,7 @@ use Rattle.std.proofs.lemmas.Bool.{eq-eqb, le-leb, leb-true}
 use Rattle.std.proofs.lemmas.List.{get_or_default}
 use Rattle.std.proofs.lemmas.Nat.{div-add-mod'}
 use Rattle.sv_model.specs.Cells.{IsOnly, area_resource}
+use Rattle.sv_model.specs.Size.{capped}
 use Rattle.sv_model.specs.declared.work.Area.{Area}
 use Rattle.sv_model.specs.declared.work.Area.TheVariants.{Bytes, Image}
 use Rattle.sv_model.specs.declared.work.Cell.{Cell}
@@ -16,7 +17,6 @@ use Rattle.sv_rangemap.specs.Lines.{Cover, IsValueAt}
 use Rattle.sv_rangemap.specs.declared.part.Part.{Part}
 use Rattle.sv_rangemap.proofs.Pieces.{cell_piece, same_piece, some_part}
 use Rattle.sv_space.specs.AllLines.{AreAllCaught, AreAllWithin, LiesAt}
-use Rattle.sv_space.specs.Counts.{capped}
 use Rattle.sv_space.specs.Cut.{Covers}
 use Rattle.sv_space.specs.Lines.{IsShaped, LiesOn, first_on}
 use Rattle.sv_space.specs.Sorted.{AreSorted}
@@ -151,58 +151,3 @@ given_same old new given none small is = is ∙ ap (λ (n : ℕ). capped (old.ca
   where
     same : (n : ℕ) → n < 2 ^ 64 → capped (n + 0) ≡ n
     same n lt = grind arith
-
--- the first cell of an area is one of the line
-first_covered : (res : ℕ) (s : Shape) (size : ℕ) (area : Area) → IsShaped s size → LiesOn res s size area
-    → (first_on s area < size) × Covers area res s (first_on s area)
-first_covered res shape.Bytes size (Bytes r span) shaped lies =
-    let low = lies.1 in
-    let high = lies.2 in (
-      omega (arith, low, high),
-      together (r == res) (nat_le span.start span.start && nat_lt span.start span.end)
-          (eq-eqb r res (sym lies.0))
-          (together (nat_le span.start span.start) (nat_lt span.start span.end)
-          (le-leb span.start span.start (omega arith)) (le-leb (suc span.start) span.end low)),
-    )
-first_covered res (shape.Mips mips layers) size (Image r box) shaped lies =
-    let some_m = lies.1 in
-    let some_l = lies.3 in
-    let in_layers = lies.4 in
-    let m = in_mip_at box.mip layers (box.mip * layers + box.layer) (omega arith)
-    (omega (arith, some_l, in_layers)) in
-    let layer = m.1 in
-    let l : (box.mip * layers + box.layer) % layers ≡ box.layer = omega (arith, layer) in
-    let inside : InBox box ((box.mip * layers + box.layer) / layers)
-    ((box.mip * layers + box.layer) % layers) =
-    subst (λ (n : ℕ). InBox box n ((box.mip * layers + box.layer) % layers)) (sym m.0)
-    (subst (λ (n : ℕ). InBox box box.mip n) (sym l)
-    (record {
-      mip_from = omega arith;
-      mip_before = omega (arith, some_m);
-      layer_from = omega arith;
-      layer_before = omega (arith, some_l);
-    })) in (
-      first_below mips layers size box.mip box.mips box.layer box.layers shaped.1.1.1.1 lies.1 lies.2 lies.3
-          lies.4,
-      (covers_box res r box _ _ lies.0).0 inside,
-    )
-first_covered res shape.Bytes size (Image r box) shaped lies = absurd lies
-first_covered res (shape.Mips mips layers) size (Bytes r span) shaped lies = absurd lies
-
--- the states of the cells of an area that the space has were given one number of groups, if any
-pub one_upto : (space : Space) (area : Area) (n m : ℕ) → HasArea space area → IsUptoOf space area n
-    → IsUptoOf space area m → n ≡ m
-one_upto space area n m has one other =
-    let lines = space.lines.items in
-    let lies = area_lies space area has in
-    let k = lies.0 in
-    let k_lt : k < length lines = lies.1 in
-    let e : Line = some_part lines (omega (arith, k_lt)) in
-    let line : Line = get_or lines k e in
-    let first = first_covered line.res line.shape line.pieces.size area line.shaped (lies.2 e) in
-    let some = line.pieces.cover.some in
-    let d : Part Known = some_part line.pieces.parts.items some in
-    let at = cell_piece line.pieces.size line.pieces.parts.items line.pieces.cover
-    (first_on line.shape area) d first.0 in
-    sym (caught_is space area n one k e k_lt at.0 (first_on line.shape area) d at.1 at.2 first.1)
-    ∙ caught_is space area m other k e k_lt at.0 (first_on line.shape area) d at.1 at.2 first.1

@@ -4,10 +4,6 @@ use Rattle.sv_rangemap.specs.declared.part.Part.{Part}
 use Rattle.sv_space.specs.declared.known.Known.{Known}
 use Rattle.sv_space.specs.declared.line.Line.{Line}
 
--- the number, or 2^64 - 1 where it is above that
-abbrev pub capped : ℕ → ℕ
-capped n = min n (2 ^ 64 - 1)
-
 abbrev pub pieces_on : Line → ℕ
 pieces_on line = length line.pieces.parts.items
 

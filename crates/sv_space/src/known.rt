@@ -4,7 +4,7 @@ ghost use Rattle.std.specs.Prelude.{drop, slice_index_or, take, IfOk, IfSome, Is
 ghost use Rattle.std.specs.Option.{option_copied};
 ghost use Rattle.sv_model.specs.Cells.{covers, IsOnly};
 ghost use Rattle.sv_model.specs.Dependencies.{IsOwn, own_deps, writes};
-ghost use Rattle.sv_model.specs.Order.{Story, IsBelow, IsClear, IsPartner, NoRaces, extended, kind_of};
+ghost use Rattle.sv_model.specs.Order.{Story, IsBelow, IsClear, IsPartner, NoRaces, extended, conflict_kind};
 ghost use Rattle.sv_model.specs.Reports.{on_cell};
 ghost use Rattle.sv_model.specs.declared.work.Cell.{Cell};
 ghost use Rattle.sv_model.specs.declared.work.Group.{Group};
@@ -85,7 +85,7 @@ impl Known {
             → MatchOption result
             (IsClear (extended story (own_deps (option_copied group.entry))) epoch access.now)
             (λ p. IsPartner (extended story (own_deps (option_copied group.entry))) epoch access.now p.access
-            × (p.kind ≡ kind_of (writes p.access.what) (writes access.now.what))) }
+            × (p.kind ≡ conflict_kind (writes p.access.what) (writes access.now.what))) }
     {
         self.state.check(access, group)
     }

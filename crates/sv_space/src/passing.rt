@@ -7,8 +7,8 @@ use crate::marks::{BLOCK, Block, clear_from, has, includes, with};
 use crate::pattern::{MOST, Pattern};
 use sv_state::{CellState, full_are_quiet};
 
-/// Which patterns were asked for: those of which no group adds to the state, those of which one may, and of the
-/// first those of which the state holds all that they may give.
+/// Which patterns were asked for: those of which no group adds to the state, those of which one may, and of
+/// the first those of which the state holds all that they may give.
 #[derive(Clone, Copy)]
 pub struct Asked {
     pub quiet: u64,

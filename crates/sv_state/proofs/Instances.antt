@@ -114,13 +114,6 @@ some_has : (stages : ℕ) (runs : List Run) → IsUnion stages runs → (s : ℕ
 some_has stages runs is s h = elim (has_or_none runs s)
     [ inl some ↦ some | inr none ↦ absurd (is.only s h none) ]
 
--- no run has a stage
-pub union_none : (stages : ℕ) (runs : List Run) → stages ≡ 0 → runs ≡ [] → IsUnion stages runs
-union_none stages runs zero none = record {
-  only = λ s h no. Has-none s (subst (λ (n : ℕ). Has n s) zero h);
-  all = λ s r on h. absurd (let lt = (subst (λ (rs : List Run). Contains rs r) none on).1 in omega arith);
-}
-
 -- what is added brings its stages
 pub union_adds : (place : ℕ → Track) (old new : List Run) (stages : ℕ) (more : Mask) → HaveNumbers old
     → HaveNumbers new → Adds (runs_masks place old) (runs_masks place new) more → IsUnion stages old

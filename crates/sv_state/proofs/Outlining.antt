@@ -23,29 +23,12 @@ use Rattle.sv_state.specs.declared.reached.Reached.{Reached}
 use Rattle.sv_state.specs.declared.settled.Settled.{Settled}
 use Rattle.sv_state.proofs.Standing.{reached_leads}
 
--- a mask with the stages and usages of another one has its marks
-pub has_marks : (n m : Mask) → Includes n.stages.0 m.stages.0 → Includes n.usages.0 m.usages.0 → (k : Mark)
-    → Marked m k → Marked n k
-has_marks n m stages usages (stage s) h = stages s h
-has_marks n m stages usages (usage u) h = usages u h
-
 pub holds_at : (masks : List Mask) (i : ℕ) (d m : Mask) → i < length masks → (get_or masks i d).track
     ≡ m.track → ((k : Mark) → Marked m k → Marked (get_or masks i d) k) → (k : Mark) → Marked m k
     → Holds masks m.track k
 holds_at masks i d m lt same marks k h = (
   get_or masks i d,
   record { listed = Contains-get_or masks i d lt; track = same; marked = marks k h },
-)
-
-pub holds_settled : (s : Settled) (t : Track) (k : Mark) → Holds s.masks.items t k → Holds (masks_of s) t k
-holds_settled s t k (m, by) = (
-  m,
-  record {
-    listed = Contains-append_left s.masks.items
-        (runs_masks on_token s.runs.items ++ subs_masks s.subs.items) m by.listed;
-    track = by.track;
-    marked = by.marked;
-  },
 )
 
 -- a dependency whose outline comes from a queue does

@@ -6,7 +6,7 @@ ghost use Rattle.sv_model.specs.Cells.{covers, IsOnly};
 ghost use Rattle.sv_model.specs.Dependencies.{Placed, IsOwn, own_deps, writes};
 ghost use Rattle.sv_model.specs.Composition.{AreChained, IsLatestUnchained, IsWithoutScopes};
 ghost use Rattle.sv_model.specs.Order.{Story, IsClear, IsPartner, NoRaces, IsBelow, extended, recorded};
-ghost use Rattle.sv_model.specs.Order.{kind_of};
+ghost use Rattle.sv_model.specs.Order.{conflict_kind};
 ghost use Rattle.sv_model.specs.declared.work.Access.{Access};
 ghost use Rattle.sv_model.specs.declared.work.Cell.{Cell};
 ghost use Rattle.sv_model.specs.declared.work.Dep.{Dep};
@@ -110,7 +110,7 @@ impl CellState {
             → MatchOption result
             (IsClear (extended story (own_deps (option_copied group.entry))) epoch access.now)
             (λ p. IsPartner (extended story (own_deps (option_copied group.entry))) epoch access.now p.access
-            × (p.kind ≡ kind_of (writes p.access.what) (writes access.now.what))) }
+            × (p.kind ≡ conflict_kind (writes p.access.what) (writes access.now.what))) }
         ensures chains { (story : Story) (epoch : ℕ) → StandsFor story epoch self.now → NoRaces story epoch
             → IsBelow access.now.step story
             → IsTrue (covers access.now.area story.cell)
@@ -139,7 +139,7 @@ impl CellState {
             self.now.written.items)
             (λ p. IsLastUndirected (deps ++ own_deps (option_copied group.entry)) cell access.now
             self.now.written.items p.access
-            × (p.kind ≡ kind_of (writes p.access.what) (writes access.now.what))) }
+            × (p.kind ≡ conflict_kind (writes p.access.what) (writes access.now.what))) }
     {
         if self.alike {
             last_racing_alike(&self.written, access, group)

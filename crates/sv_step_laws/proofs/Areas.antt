@@ -18,7 +18,7 @@ use Rattle.sv_model.specs.declared.work.Place.{Place}
 use Rattle.sv_model.specs.declared.work.Step.{Step}
 use Rattle.sv_model.specs.declared.work.Step.TheVariants.{Accesses, Groups, SetEvent, WaitEvent, ResetEvent}
 use Rattle.sv_model.specs.declared.work.Transfer.{Transfer}
-use Rattle.sv_model.specs.Barriers.{group, opened, transition}
+use Rattle.sv_model.specs.Barriers.{group, with_transition_stage, transition}
 use Rattle.sv_model.specs.Places.{Run, bind_access, bind_dep, bind_group}
 use Rattle.sv_model.specs.Events.{set_half, wait_half, with_tokens}
 use Rattle.sv_model.specs.Cells.{Within, covers}
@@ -232,15 +232,15 @@ pub group_is : (t : Trace) (place : Place) (deps : List Dep) (olds moves_on : Li
     → ((o : Old) (d : Dep) (c : Cell) → Contains moves_on o → Contains deps d → IsTrue (covers o.area c)
     → Within d.range c) → IsGroupOf t (group place deps olds moves_on transfer)
 group_is t place deps olds moves_on transfer ranges are moving_are many of hold = record {
-  ranges = All-map (IsDepOf t) (opened moves_on) deps
-      (All-weaker (IsDepOf t) (λ (d : Dep). IsDepOf t (opened moves_on d))
+  ranges = All-map (IsDepOf t) (with_transition_stage moves_on) deps
+      (All-weaker (IsDepOf t) (λ (d : Dep). IsDepOf t (with_transition_stage moves_on d))
       (λ d h. subst (IsRangeOf t) (sym (same_range moves_on d)) h) deps ranges);
   transitions = All-map (IsAccessOf t) (transition place) moves_on
       (All-weaker (IsOldOf t) (λ (o : Old). IsAccessOf t (transition place o))
       (λ o h. record { area = h.area; layout = tt }) moves_on moving_are);
   held = λ x on d c of_deps covered. (
       let o = in_map (transition place) moves_on x on in
-      let e = in_map (opened moves_on) deps d of_deps in
+      let e = in_map (with_transition_stage moves_on) deps d of_deps in
       let here : IsTrue (covers o.0.area c) = subst (λ (a : Access). IsTrue (covers a.area c))
       (sym o.2) covered in
       subst (λ (y : Dep). Within y.range c) e.2 (subst (λ (r : Option Area). Within r c)
@@ -250,6 +250,6 @@ group_is t place deps olds moves_on transfer ranges are moving_are many of hold 
   transfer = of;
 }
   where
-    same_range : (ms : List Old) (d : Dep) → (opened ms d).range ≡ d.range
+    same_range : (ms : List Old) (d : Dep) → (with_transition_stage ms d).range ≡ d.range
     same_range [] d = refl
     same_range (m ∷ ms) d = refl

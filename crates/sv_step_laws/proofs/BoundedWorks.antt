@@ -29,13 +29,13 @@ use Rattle.sv_model.specs.Declarations.{call_of, queues_of}
 use Rattle.sv_model.specs.Events.{event_set, in_force, set_groups, set_half, wait_groups, wait_half}
 use Rattle.sv_model.specs.Events.{with_tokens}
 use Rattle.sv_model.specs.Fences.{fence_state}
-use Rattle.sv_model.specs.Gather.{gather}
+use Rattle.sv_model.specs.Lists.{gather}
 use Rattle.sv_model.specs.History.{batch_at}
 use Rattle.sv_model.specs.Holding.{flow}
 use Rattle.sv_model.specs.HostWaits.{call_given, call_made, fence_waited, queue_groups}
 use Rattle.sv_model.specs.Places.{Bound, Run, bind_access, bind_group, bind_place}
 use Rattle.sv_model.specs.Positions.{numbered_step}
-use Rattle.sv_model.specs.Processed.{EventChange, InForce, Made, nothing_made}
+use Rattle.sv_model.specs.Primitives.{EventChange, InForce, Made, nothing_made}
 use Rattle.sv_model.specs.Recordings.{compile}
 use Rattle.sv_model.specs.Reports.{accesses_of}
 use Rattle.sv_model.specs.Semaphores.{paired, raises, signal_given, signaled, signals_step, wait_given}

@@ -4,3 +4,4 @@ pub mod Lowered
 pub mod FewListed
 pub mod OnQueues
 pub mod BoundedWorks
+mod DeclaredCells

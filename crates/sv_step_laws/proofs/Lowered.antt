@@ -31,7 +31,8 @@ use Rattle.sv_model.specs.declared.work.PassPoint.TheVariants.{Begin, Next, End}
 use Rattle.sv_model.specs.declared.work.Place.{Place}
 use Rattle.sv_model.specs.declared.work.Step.TheVariants.{Accesses, Groups, SetEvent, WaitEvent, ResetEvent}
 use Rattle.sv_model.specs.declared.work.Transfer.{Transfer}
-use Rattle.sv_model.specs.Barriers.{area_of, dependency, element_group, group_on, group_with, halved, moves}
+use Rattle.sv_model.specs.Barriers.{area_of, dependency, element_group, group_on, group_with, moves}
+use Rattle.sv_model.specs.Barriers.{transfer_half}
 use Rattle.sv_model.specs.Barriers.{moving, olds_of, place_of, transfer_for, track_of}
 use Rattle.sv_model.specs.Cells.{Within, covers}
 use Rattle.sv_model.specs.Recordings.{Scope, Outside, InRendering, InPass, compile, declared_access}
@@ -126,7 +127,7 @@ moving_few (Some x) olds = by_release x.release
     by_release true = omega arith
     by_release false = kept_none moves olds
 
-halved_range : (transfer : Option Transfer) (d : Dep) → (halved transfer d).range ≡ d.range
+halved_range : (transfer : Option Transfer) (d : Dep) → (transfer_half transfer d).range ≡ d.range
 halved_range None d = refl
 halved_range (Some x) d = by_release x.release
   where
@@ -149,19 +150,20 @@ with_is : (t : Trace) (place : Place) (dep : Dep) (on : Area) (olds : List Old) 
     → dep.range ≡ Some on → IsAreaOf t on → All (IsOldOf t) olds → All (IsOn on) olds
     → IsTransferOf t transfer → IsGroupOf t (group_with place dep olds transfer)
 with_is t place dep on olds transfer range is are on_it of =
-    group_is t place (halved transfer dep ∷ []) olds (moving transfer olds) transfer
-    (one (IsDepOf t) (halved transfer dep) (subst (IsRangeOf t) (sym there) is))
+    group_is t place (transfer_half transfer dep ∷ []) olds (moving transfer olds) transfer
+    (one (IsDepOf t) (transfer_half transfer dep) (subst (IsRangeOf t) (sym there) is))
     are (moving_all (IsOldOf t) transfer olds are) (moving_few transfer olds) of
     (λ o d c moved of_deps covered. (
     let at : o.area ≡ on = All-contains (IsOn on) (moving transfer olds) o
     (moving_all (IsOn on) transfer olds on_it) moved in
     let same : d.range ≡ Some on = All-contains (λ (e : Dep). e.range ≡ Some on)
-    (halved transfer dep ∷ []) d (one (λ (e : Dep). e.range ≡ Some on) (halved transfer dep) there)
+    (transfer_half transfer dep ∷ []) d
+    (one (λ (e : Dep). e.range ≡ Some on) (transfer_half transfer dep) there)
     of_deps in
     subst (λ (r : Option Area). Within r c) (sym same)
     (subst (λ (a : Area). IsTrue (covers a c)) at covered)))
   where
-    there : (halved transfer dep).range ≡ Some on
+    there : (transfer_half transfer dep).range ≡ Some on
     there = halved_range transfer dep ∙ range
 
 abbrev dep_of : Here → Element → Option Area → Dep

@@ -16,7 +16,7 @@ use Rattle.sv_model.specs.Holding.{first_calls, flow, from_lane, from_queue, hel
 use Rattle.sv_model.specs.Holding.{next, past, queues_after, sent, settle, settled, start, starts, step}
 use Rattle.sv_model.specs.Holding.{take_lane, take_queue, took}
 use Rattle.sv_model.specs.Lawful.{IsLawful, IsLawfulCall, IsQueueOf, script_of}
-use Rattle.sv_model.specs.Processed.{Past}
+use Rattle.sv_model.specs.Primitives.{Past}
 use Rattle.sv_model.specs.declared.line.Batch.{Batch}
 use Rattle.sv_model.specs.declared.line.Line.{Line}
 use Rattle.sv_model.specs.declared.line.Line.TheVariants as line

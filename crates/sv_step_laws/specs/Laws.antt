@@ -1,7 +1,9 @@
--- What holds of the steps of a lawful trace, and of numbered steps.
+-- What holds of the steps of a lawful trace, of numbered steps, and of the cells that are reported.
 use Rattle.std.specs.Prelude.{ℕ}
 use Rattle.std.specs.List.{All}
+use Rattle.sv_model.specs.Cells.{IsCell}
 use Rattle.sv_model.specs.Recordings.{compile}
+use Rattle.sv_model.specs.Reports.{Spot, IsReportedFrom}
 use Rattle.sv_model.specs.Lawful.{IsLawful}
 use Rattle.sv_model.specs.Positions.{numbered_step}
 use Rattle.sv_model.specs.declared.line.Trace.{Trace}
@@ -16,3 +18,8 @@ LawfulStepsAreInside = (t : Trace) (k : ℕ) → IsLawful t → All (IsStepOf t)
 -- A numbered step has its number, and its accesses and transitions their positions.
 abbrev pub NumberedStepsAreNext : Type 0
 NumberedStepsAreNext = (n : ℕ) (s : Step) → IsNext n (numbered_step n s)
+
+-- Where the steps lie inside the resources of a trace, each report is on a cell that the trace declares.
+abbrev pub ReportedCellsAreDeclared : Type 0
+ReportedCellsAreDeclared = (t : Trace) (steps : List Step) (s : Spot) → All (IsStepOf t) steps
+    → IsReportedFrom 0 steps s → IsCell t s.cell

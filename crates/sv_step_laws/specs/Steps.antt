@@ -3,6 +3,7 @@ use Rattle.std.specs.Prelude.{◌≤◌, ◌<◌, ◌^◌, Option, Some, None, C
 use Rattle.std.specs.List.{All}
 use Rattle.sv_mask.specs.declared.layout.Layout.{Layout}
 use Rattle.sv_model.specs.declared.line.Trace.{Trace}
+use Rattle.sv_model.specs.Size.{HasShortOlds, HasSmallPlaces}
 use Rattle.sv_model.specs.declared.work.Access.{Access}
 use Rattle.sv_model.specs.declared.work.Area.{Area}
 use Rattle.sv_model.specs.declared.work.Area.TheVariants.{Bytes, Image}
@@ -61,13 +62,10 @@ IsStepOf t (SetEvent event place groups) = All (IsGroupOf t) groups
 IsStepOf t (WaitEvent event place) = Unit {0}
 IsStepOf t (ResetEvent event place) = Unit {0}
 
-abbrev pub IsShortGroup : Group → Type 0
-IsShortGroup g = length g.olds < 2 ^ 32
-
 -- a bound step: of accesses, or of groups, whose places have numbers of 32 bits
 abbrev pub IsShortStep : Step → Type 0
 IsShortStep (Accesses accesses) = Unit {0}
-IsShortStep (Groups groups) = (length groups < 2 ^ 32) × All IsShortGroup groups
+IsShortStep (Groups groups) = HasSmallPlaces groups × All HasShortOlds groups
 IsShortStep (SetEvent event place groups) = ⊥
 IsShortStep (WaitEvent event place) = ⊥
 IsShortStep (ResetEvent event place) = ⊥

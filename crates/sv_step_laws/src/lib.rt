@@ -8,6 +8,7 @@
 
 ghost use Rattle.sv_step_laws.specs.Bounded.{LawfulWorksAreBounded};
 ghost use Rattle.sv_step_laws.specs.Laws.{LawfulStepsAreInside, NumberedStepsAreNext};
+ghost use Rattle.sv_step_laws.specs.Laws.{ReportedCellsAreDeclared};
 
 /// The steps of a recording of a lawful trace lie inside its resources: accesses, ranges, transitions,
 /// pairs of layouts and transfers, and each range of a group holds the areas of its transitions.
@@ -24,4 +25,10 @@ pub fn numbered_steps_are_next()
 /// and no step has more than 64 on one cell.
 pub fn lawful_works_are_bounded()
     ensures { LawfulWorksAreBounded }
+{}
+
+/// Where steps lie inside the resources of a trace, each report is on a cell that the trace declares: a byte
+/// below the size of a buffer, or a mip and a layer that an image has.
+pub fn reported_cells_are_declared()
+    ensures { ReportedCellsAreDeclared }
 {}

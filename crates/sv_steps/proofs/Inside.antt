@@ -29,7 +29,8 @@ use Rattle.sv_space.specs.Steps.{IsNext}
 use Rattle.sv_space.specs.declared.space.Space.{Space}
 use Rattle.sv_steps.specs.Checked.{Fits, HaveAreas}
 use Rattle.sv_step_laws.specs.Steps.{IsAccessOf, IsDepOf, IsGroupOf, IsOfImage, IsOldOf, IsRangeOf}
-use Rattle.sv_step_laws.specs.Steps.{IsShortGroup, IsShortStep, IsTransferOf, IsStepOf, MayDeclare}
+use Rattle.sv_model.specs.Size.{HasShortOlds}
+use Rattle.sv_step_laws.specs.Steps.{IsShortStep, IsTransferOf, IsStepOf, MayDeclare}
 use Rattle.sv_steps.specs.declared.checks.Checks.{Checks}
 use Rattle.sv_model.proofs.PlainCommands.{bounded}
 
@@ -130,7 +131,7 @@ module _ (t : Trace) (lawful : IsLawful t) where
         (λ a h. owners_area c.owners has.owners a.area h.area) list is;
   }
   step_fits c has n (Groups list) next is short =
-      let both = all_both (IsGroupOf t) IsShortGroup list is short.1 in record {
+      let both = all_both (IsGroupOf t) HasShortOlds list is short.1 in record {
         space = record {
           number = n;
           next = next;
@@ -139,13 +140,13 @@ module _ (t : Trace) (lawful : IsLawful t) where
         };
         layouts = (
           short.0,
-          All-weaker (λ (g : Group). IsGroupOf t g × IsShortGroup g)
+          All-weaker (λ (g : Group). IsGroupOf t g × HasShortOlds g)
               (layout_taking.GroupFits c.layouts.map)
               (λ g h. layout_group c.layouts has.layouts g h.1 h.0) list both,
         );
         owners = (
           short.0,
-          All-weaker (λ (g : Group). IsGroupOf t g × IsShortGroup g)
+          All-weaker (λ (g : Group). IsGroupOf t g × HasShortOlds g)
               (owner_taking.GroupFits c.owners.map)
               (λ g h. owner_group c.owners has.owners g h.1 h.0 g.transfer refl) list both,
         );

@@ -140,17 +140,6 @@ pub says_member : {A : Type 0} (P : A → Type 0) (name : List ℕ) (form : Data
 unfolding member
 says_member P name form says d fine = says (unwrap_or (get name d) null) fine
 
-maybe_value : {A : Type 0} (P : A → Type 0) (form : Data → Found A) → Says P form → (o : Option Data)
-    → (option_map_or (λ e. found (form e).flaw (Some (form e).value)) o (found Fine None)).flaw ≡ Fine
-    → Holds P (option_map_or (λ e. found (form e).flaw (Some (form e).value)) o (found Fine None)).value
-maybe_value P form says None fine = tt
-maybe_value P form says (Some d) fine = says d fine
-
-pub says_maybe : {A : Type 0} (P : A → Type 0) (name : List ℕ) (form : Data → Found A) → Says P form
-    → Says (Holds P) (maybe name form)
-unfolding maybe
-says_maybe P name form says d fine = maybe_value P form says (get name d) fine
-
 or_else_value : {A : Type 0} (P : A → Type 0) (form : Data → Found A) (default : A) → Says P form
     → P default → (o : Option Data) → (option_map_or form o (found Fine default)).flaw ≡ Fine
     → P (option_map_or form o (found Fine default)).value

@@ -1,8 +1,8 @@
 use Rattle.std.proofs.Common.{◌<◌, ◌∙◌, List, ap, fold, length, subst, take, take_all}
 use Rattle.std.proofs.lemmas.Result.{on_ok_weaker}
 use Rattle.sv_model.specs.Semaphores.{signal_given, timeline_notes, signaled}
-use Rattle.sv_model.specs.Gather.{gather}
-use Rattle.sv_model.specs.Processed.{Made}
+use Rattle.sv_model.specs.Lists.{gather}
+use Rattle.sv_model.specs.Primitives.{Made}
 use Rattle.sv_model.specs.declared.line.SemaphoreUse.{SemaphoreUse}
 use Rattle.sv_binding.specs.Runs.{run_for}
 use Rattle.sv_processed.specs.Works.{IsLeft}

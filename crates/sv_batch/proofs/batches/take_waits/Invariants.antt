@@ -1,8 +1,8 @@
 use Rattle.std.proofs.Common.{ℕ, ◌≡◌, fold, take}
 use Rattle.std.specs.List.{All}
 use Rattle.sv_model.specs.Semaphores.{wait_given, waited}
-use Rattle.sv_model.specs.Gather.{gather}
-use Rattle.sv_model.specs.Processed.{Made}
+use Rattle.sv_model.specs.Lists.{gather}
+use Rattle.sv_model.specs.Primitives.{Made}
 use Rattle.sv_model.specs.declared.line.Trace.{Trace}
 use Rattle.sv_binding.specs.Runs.{run_for}
 use Rattle.sv_step_laws.specs.Steps.{IsGroupOf}

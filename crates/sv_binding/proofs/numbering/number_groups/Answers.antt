@@ -1,7 +1,7 @@
 use Rattle.std.proofs.Common.{arith, sym, subst}
 use Rattle.std.specs.List.{All}
 use Rattle.std.proofs.lemmas.List.Elements.{All-push}
-use Rattle.sv_binding.specs.Short.{HasShortOlds}
+use Rattle.sv_model.specs.Size.{HasShortOlds}
 use Rattle.sv_binding.proofs.Counting.{count_snoc, groups_pushed}
 use Rattle.sv_binding.proofs.numbering.number_groups.Goals as goal
 

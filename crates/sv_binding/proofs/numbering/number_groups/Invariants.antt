@@ -1,7 +1,7 @@
 use Rattle.std.proofs.Common.{◌≡◌}
 use Rattle.sv_model.specs.Positions.{groups_from}
 use Rattle.std.specs.List.{All}
-use Rattle.sv_binding.specs.Short.{HasShortOlds}
+use Rattle.sv_model.specs.Size.{HasShortOlds}
 use Rattle.sv_binding.proofs.Counting.{count_of}
 use Rattle.sv_binding.proofs.numbering.number_groups.Given as goal
 

@@ -3,7 +3,7 @@ use Rattle.std.specs.List.{All}
 use Rattle.std.proofs.lemmas.Result.{on_ok_weaker}
 use Rattle.sv_model.specs.Declarations.{queues_of}
 use Rattle.sv_model.specs.HostWaits.{host_step, queue_groups}
-use Rattle.sv_model.specs.Processed.{Made}
+use Rattle.sv_model.specs.Primitives.{Made}
 use Rattle.sv_model.specs.QueueGroups.{place_in}
 use Rattle.sv_model.specs.declared.work.Place.{Place}
 use Rattle.sv_binding.specs.Runs.{run_for}

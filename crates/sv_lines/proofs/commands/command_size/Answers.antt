@@ -3,8 +3,7 @@ use Rattle.sv_model.specs.declared.line.Command.{Command}
 use Rattle.sv_model.specs.Recordings.{steps_of}
 use Rattle.sv_model.specs.Declarations.{pass_of}
 use Rattle.sv_model.specs.LawfulCommands.{IsLawfulCommand}
-use Rattle.sv_model.specs.Size.{step_size}
-use Rattle.sv_lines.specs.Extents.{capped}
+use Rattle.sv_model.specs.Size.{step_size, capped}
 use Rattle.sv_lines.specs.Following.{barrier_size}
 use Rattle.sv_lines.proofs.Sizing.{barrier_total, end_total}
 use Rattle.sv_lines.proofs.commands.command_size.Goals as goal

@@ -2,8 +2,7 @@ use Rattle.std.proofs.Common.{List, ◌∙◌, ap, sum_by}
 use Rattle.sv_model.specs.declared.work.Here.{Here}
 use Rattle.sv_model.specs.declared.work.Step.{Step}
 use Rattle.sv_model.specs.Passes.{pass_steps}
-use Rattle.sv_model.specs.Size.{step_size}
-use Rattle.sv_lines.specs.Extents.{capped}
+use Rattle.sv_model.specs.Size.{step_size, capped}
 use Rattle.sv_lines.proofs.Numbering.{numbered_size}
 use Rattle.sv_lines.proofs.measure.measured.Goals as goal
 

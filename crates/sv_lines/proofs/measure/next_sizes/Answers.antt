@@ -5,8 +5,7 @@ use Rattle.std.proofs.lemmas.List.{get_or-set_same, get_or-set_other}
 use Rattle.std.specs.Prelude.{slice_index_or, slice_set}
 use Rattle.sv_model.specs.declared.work.PassPoint.TheVariants.{Next}
 use Rattle.sv_model.specs.Passes.{pass_steps}
-use Rattle.sv_model.specs.Size.{step_size}
-use Rattle.sv_lines.specs.Extents.{capped}
+use Rattle.sv_model.specs.Size.{step_size, capped}
 use Rattle.sv_lines.specs.Measures.{anywhere}
 use Rattle.sv_lines.proofs.measure.next_sizes.Goals as goal
 

@@ -4,9 +4,8 @@ use Rattle.sv_model.specs.declared.line.View.{View}
 use Rattle.sv_model.specs.declared.work.PassPoint.TheVariants.{Next}
 use Rattle.sv_model.specs.Declarations.{Pass}
 use Rattle.sv_model.specs.Passes.{pass_steps}
-use Rattle.sv_model.specs.Size.{step_size}
+use Rattle.sv_model.specs.Size.{step_size, capped}
 use Rattle.sv_pass.specs.Begun.{IsBegun}
-use Rattle.sv_lines.specs.Extents.{capped}
 use Rattle.sv_lines.specs.Measures.{anywhere}
 use Rattle.sv_lines.proofs.measure.next_sizes.Given as goal
 

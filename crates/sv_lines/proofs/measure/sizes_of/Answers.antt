@@ -1,9 +1,9 @@
 use Rattle.std.proofs.Common.{◌≡◌, List, [], ◌∷◌, ◌∙◌, ap, subst, arith, length}
+use Rattle.sv_model.specs.Size.{capped}
 use Rattle.sv_model.specs.declared.line.Line.{Line}
 use Rattle.sv_model.specs.declared.line.View.{View}
 use Rattle.sv_model.specs.declared.work.PassPoint.TheVariants.{Begin, Next, End}
 use Rattle.sv_pass.specs.Begun.{IsBegun, pass_in}
-use Rattle.sv_lines.specs.Extents.{capped}
 use Rattle.sv_lines.specs.Measures.{anywhere}
 use Rattle.sv_lines.proofs.Measuring.{pass_same}
 use Rattle.sv_lines.proofs.measure.sizes_of.Goals as goal

@@ -1,6 +1,5 @@
 use Rattle.std.proofs.Common.{◌≡◌, take, sum_by}
-use Rattle.sv_model.specs.Size.{batch_size}
-use Rattle.sv_lines.specs.Extents.{capped}
+use Rattle.sv_model.specs.Size.{batch_size, capped}
 use Rattle.sv_lines.proofs.sizes.batches_size.Given as goal
 
 abbrev pub invariant-loop-batch : goal.invariant-loop-batch

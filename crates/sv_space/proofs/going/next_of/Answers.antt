@@ -25,7 +25,8 @@ returns-then-kept-eq0-clause-late c = λ d e lt on.
 pub returns-else-index-newest-clause-passed : goal.returns-else-index-newest-clause-passed
 returns-else-index-newest-clause-passed c = λ number d le lt. quiet_groups c.args.state.now
     c.args.groups.now.items c.args.patterns.now.items c.args.numbers.now.items c.args.blocks.now.items
-    c.args.from c.next_in.result c.requires.have c.next_in.ensures.listed c.next_in.ensures.quiet number d le lt
+    c.args.from c.next_in.result c.requires.have c.next_in.ensures.listed c.next_in.ensures.quiet
+    number d le lt
 
 pub returns-else-index-newest-clause-late : goal.returns-else-index-newest-clause-late
 returns-else-index-newest-clause-late c = λ d e lt on.

@@ -1,7 +1,8 @@
 use Rattle.std.proofs.Common.{◌≡◌, ◌≤◌, ◌+◌, ◌*◌, ℕ, List, length, take}
 use Rattle.std.specs.Prelude.{sum_by}
+use Rattle.sv_model.specs.Size.{capped}
 use Rattle.sv_model.specs.declared.work.Step.{Step}
-use Rattle.sv_space.specs.Counts.{capped, kept_by}
+use Rattle.sv_space.specs.Counts.{kept_by}
 use Rattle.sv_space.specs.KeptLaws.{IsBoundedWork}
 use Rattle.sv_space.specs.Pieces.{IsLineOf}
 use Rattle.sv_space.specs.Steps.{AreInOrder}

@@ -1,6 +1,6 @@
 use Rattle.std.proofs.Common.{ℕ, ◌≡◌, ◌<◌, [], false, get_or}
 use Rattle.sv_model.specs.declared.line.Trace.{Trace}
-use Rattle.sv_model.specs.Processed.{Past, Made}
+use Rattle.sv_model.specs.Primitives.{Past, Made}
 use Rattle.sv_model.specs.Holding.{call_ready, Holding, starts, first_calls}
 use Rattle.sv_model.specs.Lawful.{IsLawful}
 use Rattle.sv_fence.specs.Stands.{StandFor}

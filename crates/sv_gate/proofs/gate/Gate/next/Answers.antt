@@ -1,5 +1,5 @@
 use Rattle.std.proofs.Common.{ℕ, Option, None, refl, subst}
-use Rattle.sv_model.specs.Processed.{Past, Made}
+use Rattle.sv_model.specs.Primitives.{Past, Made}
 use Rattle.sv_model.specs.Holding.{past, items_of, take_lane, take_queue}
 use Rattle.sv_model.specs.Laws.{left_by_items}
 use Rattle.sv_gate.specs.Gates.{Takes}

@@ -1,5 +1,5 @@
 use Rattle.std.proofs.Common.{◌≡◌, ◌<◌, ◌+◌, false, ◌-◌, ◌^◌, ◌∙◌, min, sym, subst}
-use Rattle.sv_lines.specs.Extents.{capped}
+use Rattle.sv_model.specs.Size.{capped}
 use Rattle.sv_rules.specs.Limits.{size_so_far, added_size}
 use Rattle.sv_rules.specs.Places.{submits_wrongly}
 use Rattle.sv_rules.specs.Taken.{Taken}

@@ -1,5 +1,5 @@
 use Rattle.std.proofs.Common.{◌≡◌, ◌∙◌, ap, subst}
-use Rattle.sv_lines.specs.Extents.{capped}
+use Rattle.sv_model.specs.Size.{capped}
 use Rattle.sv_rules.specs.Limits.{size_so_far}
 use Rattle.sv_rules.specs.Taken.{Taken}
 use Rattle.sv_lines.proofs.Kept.{trace_in}

@@ -3,7 +3,7 @@ use Rattle.std.specs.Prelude.{IfSome}
 use Rattle.std.specs.List.{All}
 use Rattle.std.proofs.lemmas.Result.{IfOk-weaker}
 use Rattle.sv_model.specs.Events.{wait_half}
-use Rattle.sv_model.specs.Processed.{InForce}
+use Rattle.sv_model.specs.Primitives.{InForce}
 use Rattle.sv_step_laws.specs.Steps.{IsGroupOf}
 use Rattle.sv_step_laws.proofs.Areas.{halves_are, wait_is}
 use Rattle.sv_processed.proofs.work.Work.waited_groups.Goals as goal

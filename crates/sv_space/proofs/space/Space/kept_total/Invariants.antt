@@ -1,8 +1,9 @@
 use Rattle.std.proofs.Common.{◌≡◌, ◌≤◌, ◌+◌, ◌*◌, ℕ, List, length, take}
 use Rattle.std.specs.Prelude.{sum_by}
+use Rattle.sv_model.specs.Size.{capped}
 use Rattle.sv_model.specs.declared.work.Step.{Step}
 use Rattle.sv_space.specs.AllLines.{AreLinesOf}
-use Rattle.sv_space.specs.Counts.{capped, kept_on, pieces_on}
+use Rattle.sv_space.specs.Counts.{kept_on, pieces_on}
 use Rattle.sv_space.specs.KeptLaws.{IsBoundedWork}
 use Rattle.sv_space.specs.Steps.{AreInOrder}
 use Rattle.sv_space.proofs.space.Space.kept_total.Given as goal
