@@ -1,4 +1,4 @@
-// The answer to a text.
+//! The answer to a text.
 ghost use Rattle.std.specs.Prelude.{◌≡◌, IfOk};
 ghost use Rattle.std.specs.List.{list_all};
 ghost use Rattle.sv_model.specs.History.{IsWhole};

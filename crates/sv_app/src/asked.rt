@@ -1,4 +1,4 @@
-// The answer to what is asked for.
+//! The answer to what is asked for.
 ghost use Rattle.std.specs.Prelude.{◌≡◌, ◌≢◌, ◌<◌, ◌≤◌, ◌↔◌, ◌+◌, [], Some, Err, IfOk, IsErrOf};
 ghost use Rattle.sv_io.specs.Causes.{Rose};
 ghost use Rattle.sv_gen.specs.Generated.{generated};

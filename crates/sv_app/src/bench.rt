@@ -1,4 +1,4 @@
-// The line of `bench`.
+//! The line of `bench`.
 ghost use Rattle.std.specs.Prelude.{◌≡◌, [], ◌≤◌, IfOk, length};
 ghost use Rattle.sv_model.specs.History.{IsWhole};
 ghost use Rattle.sv_model.specs.Lawful.{IsLawful};

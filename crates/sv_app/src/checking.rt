@@ -1,4 +1,4 @@
-// A run that waits for nobody: from a source to a sink.
+//! A run that waits for nobody: from a source to a sink.
 ghost use Rattle.std.specs.Prelude.{◌≡◌, ◌≢◌, ℕ, ◌+◌, ◌<◌, ◌↔◌, ◌≤◌, List, [], Some, None};
 ghost use Rattle.std.specs.Io.KnownBytes.{Appends};
 ghost use Rattle.sv_hub.specs.Attachments.{HasHeard};

@@ -1,4 +1,4 @@
-// An answer goes to the listeners and to the sink.
+//! An answer goes to the listeners and to the sink.
 ghost use Rattle.std.specs.Prelude.{◌≡◌, ◌≢◌, [], Err, length, OnOk, IsErrOf};
 ghost use Rattle.std.specs.Io.KnownBytes.{Appends};
 ghost use Rattle.sv_hub.specs.Attachments.{HasHeard, HasRoom};

@@ -1,4 +1,4 @@
-// The answer to a text in a history that its lanes and recorders make in threads.
+//! The answer to a text in a history that its lanes and recorders make in threads.
 ghost use Rattle.std.specs.Prelude.{IfOk};
 ghost use Rattle.sv_model.specs.Lawful.{IsLawful};
 ghost use Rattle.sv_app.specs.Answer.{InSomeOrder, IsAnswerTo};

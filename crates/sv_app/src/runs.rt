@@ -1,4 +1,4 @@
-// A run of the program, which may start threads and wait.
+//! A run of the program, which may start threads and wait.
 ghost use Rattle.std.specs.Prelude.{◌≡◌, ◌≢◌, ℕ, ◌+◌, ◌<◌, ◌↔◌, ◌≤◌, List, [], Some, None};
 ghost use Rattle.std.specs.Io.KnownBytes.{Appends};
 ghost use Rattle.sv_hub.specs.Attachments.{HasHeard};

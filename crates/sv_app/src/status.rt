@@ -1,3 +1,4 @@
+//! How a run ends: its exit status.
 ghost use Rattle.std.specs.Prelude.{◌≡◌};
 ghost use Rattle.sv_app.specs.Status.{number_of};
 

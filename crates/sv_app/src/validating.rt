@@ -1,4 +1,4 @@
-// The validator of a trace, after all events of its text order.
+//! The validator of a trace, after all events of its text order.
 ghost use Rattle.std.specs.Prelude.{◌≡◌, IfOk, false};
 ghost use Rattle.sv_core.specs.Marks.{IsOwn, mark_of};
 ghost use Rattle.sv_model.specs.History.{IsOfTrace};

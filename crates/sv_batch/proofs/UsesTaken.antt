@@ -24,7 +24,7 @@ use Rattle.sv_model.specs.declared.work.Place.{Place}
 use Rattle.sv_model.specs.declared.work.Step.TheVariants.{Groups}
 use Rattle.sv_binding.specs.Runs.{run_for}
 use Rattle.sv_binding.specs.declared.run.Run.{Run}
-use Rattle.sv_sema.specs.Stands.{StandFor, pairing_of, signal_pairing, signalled_of}
+use Rattle.sv_sema.specs.Stands.{SemaphoresStandFor, pairing_of, signal_pairing, signalled_of}
 use Rattle.sv_sema.specs.declared.semaphores.Pairing.{Pairing}
 use Rattle.sv_sema.specs.declared.semaphores.Pairing.TheVariants.{Initial, Token, NotYet}
 use Rattle.sv_sema.specs.declared.semaphores.Semaphores.{Semaphores}
@@ -35,7 +35,7 @@ use Rattle.sv_step_laws.proofs.Areas.{plain_group}
 use Rattle.sv_replies.specs.Replying.{IsReplySoFar}
 use Rattle.sv_steps.specs.Checked.{HaveAreas, StandForSteps}
 use Rattle.sv_steps.specs.declared.checks.Checks.{Checks}
-use Rattle.sv_event.specs.Stands.{StandFor as EventsStandFor}
+use Rattle.sv_event.specs.Stands.{EventsStandFor}
 use Rattle.sv_processed.specs.Works.{IsAt, IsLeft, WorkFits, bound_as}
 use Rattle.sv_processed.proofs.StepDone.{Taken}
 use Rattle.sv_processed.specs.declared.work.Work.{Work}
@@ -87,7 +87,7 @@ abbrev with_semaphores : Work → Semaphores → Work
 with_semaphores w s = record w { semaphores = s }
 
 pub left_waited : (t : Trace) (m : Made) (w : Work) (s : Semaphores) (u : SemaphoreUse)
-    → StandFor t (waited m u) s → IsLeft t m w → IsLeft t (waited m u) (with_semaphores w s)
+    → SemaphoresStandFor t (waited m u) s → IsLeft t m w → IsLeft t (waited m u) (with_semaphores w s)
 left_waited t m w s u stands left = record {
   semaphores = stands;
   fences = fences_same t m (waited m u) w.fences refl left.fences;
@@ -156,7 +156,7 @@ module _ (t : Trace) (m : Made) (u : SemaphoreUse) where
     tokens = m.tokens + 1;
   }
 
-  left_with : (w : Work) (s : Semaphores) (n : ℕ) → StandFor t (signaled t m u) s → n
+  left_with : (w : Work) (s : Semaphores) (n : ℕ) → SemaphoresStandFor t (signaled t m u) s → n
       ≡ (signaled t m u).tokens → IsLeft t m w → IsLeft t (signaled t m u) (with_signal w s n)
   left_with w s n stands same left = record {
     semaphores = stands;
@@ -168,13 +168,14 @@ module _ (t : Trace) (m : Made) (u : SemaphoreUse) where
     tokens = same;
   }
 
-  pub left_done : (w : Work) (s : Semaphores) (n : ℕ) → raises t m u ≡ true → StandFor t (signaled t m u) s
+  pub left_done : (w : Work) (s : Semaphores) (n : ℕ) → raises t m u ≡ true
+      → SemaphoresStandFor t (signaled t m u) s
       → n ≡ w.tokens + 1 → IsLeft t m w → IsLeft t (signaled t m u) (with_signal w s n)
   left_done w s n raise stands is left = left_with w s n stands
       (is ∙ ap (λ (k : ℕ). k + 1) left.tokens ∙ ap (λ (b : Bool). (if b then raised else m).tokens)
       (sym raise)) left
 
-  pub left_not : (w : Work) (s : Semaphores) → raises t m u ≡ false → StandFor t (signaled t m u) s
+  pub left_not : (w : Work) (s : Semaphores) → raises t m u ≡ false → SemaphoresStandFor t (signaled t m u) s
       → IsLeft t m w → IsLeft t (signaled t m u) (with_signal w s w.tokens)
   left_not w s raise stands left = left_with w s w.tokens stands
       (left.tokens ∙ ap (λ (b : Bool). (if b then raised else m).tokens) (sym raise)) left

@@ -25,8 +25,8 @@ use Rattle.sv_model.specs.declared.work.Track.{Track}
 use Rattle.sv_model.specs.declared.work.Track.TheVariants.{Queue}
 use Rattle.sv_binding.specs.Runs.{run_for}
 use Rattle.sv_binding.specs.declared.run.Run.{Run}
-use Rattle.sv_event.specs.Stands.{StandFor as EventsStandFor}
-use Rattle.sv_fence.specs.Stands.{StandFor as FencesStandFor}
+use Rattle.sv_event.specs.Stands.{EventsStandFor}
+use Rattle.sv_fence.specs.Stands.{FencesStandFor}
 use Rattle.sv_fence.specs.declared.fences.Fences.{Fences}
 use Rattle.sv_step_laws.specs.Steps.{IsGroupOf}
 use Rattle.sv_step_laws.proofs.Areas.{plain_group}

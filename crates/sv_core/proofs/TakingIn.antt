@@ -16,8 +16,8 @@ use Rattle.sv_model.specs.declared.work.Item.{Item}
 use Rattle.sv_model.specs.declared.work.Reply.{Reply}
 use Rattle.sv_model.specs.declared.work.Taken.{Taken}
 use Rattle.sv_model.proofs.Settling.{some_is}
-use Rattle.sv_fence.specs.Stands.{StandFor as FencesStandFor}
-use Rattle.sv_sema.specs.Stands.{StandFor as SemaphoresStandFor}
+use Rattle.sv_fence.specs.Stands.{FencesStandFor}
+use Rattle.sv_sema.specs.Stands.{SemaphoresStandFor}
 use Rattle.sv_gate.specs.Gates.{IsGateOf, Takes}
 use Rattle.sv_gate.specs.declared.gate.Gate.{Gate}
 use Rattle.sv_steps.specs.Checked.{StandForSteps}

@@ -1,3 +1,4 @@
+//! Worked examples.
 use crate::{access, first_sync, is_within, names_all, second_sync, supported, usages_at};
 use sv_mask::{AccessWord, Accesses, StageWord, Stages, Usages};
 

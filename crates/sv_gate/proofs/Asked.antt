@@ -16,7 +16,7 @@ use Rattle.sv_model.specs.Semaphores.{binary_pair, serves, current_value}
 use Rattle.sv_sema.specs.declared.semaphores.Pairing.{Pairing}
 use Rattle.sv_sema.specs.declared.semaphores.Pairing.TheVariants.{Initial}
 use Rattle.sv_sema.specs.declared.semaphores.Semaphores.{Semaphores}
-use Rattle.sv_sema.specs.Stands.{StandFor, IsBinary, pairing_of, signal_pairing}
+use Rattle.sv_sema.specs.Stands.{SemaphoresStandFor, IsBinary, pairing_of, signal_pairing}
 use Rattle.sv_gate.specs.Kept.{found, standing_of}
 use Rattle.sv_gate.proofs.Timelines.{kept_are}
 
@@ -63,7 +63,8 @@ kept_standing : (m : Made) (n : ℕ) (o : Option (Option ℕ)) → MatchOption o
 kept_standing m n None h = absurd h
 kept_standing m n (Some standing) h = stands_one m n standing h
 
-pub standing_is : (t : Trace) (m : Made) (s : Semaphores) (n : ℕ) → StandFor t m s → semaphore_kind t n
+pub standing_is : (t : Trace) (m : Made) (s : Semaphores) (n : ℕ) → SemaphoresStandFor t m s
+    → semaphore_kind t n
     ≡ Some Binary → standing_of m n ≡ cond (is_none (binary_pair m n)) 0 1
 standing_is t m s n stands binary = kept_standing m n (get nat_cmp s.binaries n) (stands.binaries n binary)
 

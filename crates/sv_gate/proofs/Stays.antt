@@ -11,9 +11,9 @@ use Rattle.sv_model.specs.Semaphores.{current_value}
 use Rattle.sv_model.specs.Fences.{fence_by}
 use Rattle.sv_sema.specs.declared.semaphores.Semaphores.{Semaphores}
 use Rattle.sv_sema.specs.declared.timeline.Timeline.{Timeline}
-use Rattle.sv_sema.specs.Stands.{StandFor as SemaphoresStandFor, IsBinary, IsTimeline, is_of, raise_of}
+use Rattle.sv_sema.specs.Stands.{SemaphoresStandFor, IsBinary, IsTimeline, is_of, raise_of}
 use Rattle.sv_fence.specs.declared.fences.Fences.{Fences}
-use Rattle.sv_fence.specs.Stands.{StandFor as FencesStandFor}
+use Rattle.sv_fence.specs.Stands.{FencesStandFor}
 use Rattle.sv_gate.specs.ReadyLaws.{IsKept}
 use Rattle.sv_gate.proofs.Folds.{batch_fences, recs_signals, recs_waits}
 

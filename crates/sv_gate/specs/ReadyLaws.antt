@@ -18,9 +18,9 @@ use Rattle.sv_model.specs.Lawful.{IsLawful}
 use Rattle.sv_model.specs.Laws.{left_by_items}
 use Rattle.sv_model.specs.Primitives.{Made}
 use Rattle.sv_sema.specs.declared.semaphores.Semaphores.{Semaphores}
-use Rattle.sv_sema.specs.Stands.{StandFor as SemaphoresStandFor}
+use Rattle.sv_sema.specs.Stands.{SemaphoresStandFor}
 use Rattle.sv_fence.specs.declared.fences.Fences.{Fences}
-use Rattle.sv_fence.specs.Stands.{StandFor as FencesStandFor}
+use Rattle.sv_fence.specs.Stands.{FencesStandFor}
 use Rattle.sv_gate.specs.Kept.{IsBatchOf, past_of}
 
 -- in a lawful trace a batch that is taken may run by what the items left

@@ -1,3 +1,4 @@
+//! The gate: which item is taken next.
 ghost use Rattle.std.specs.Prelude.{◌≡◌, ◌++◌, ◌∷◌, ℕ, List, [], length, map, option_map, IfOk, IfSome};
 ghost use Rattle.std.specs.Prelude.{OnOk, OnErr, Some, slice_get, slice_index_or, position, ◌+◌, ◌<◌, ◌^◌};
 ghost use Rattle.std.specs.BTreeSet.{contains};
@@ -16,8 +17,8 @@ ghost use Rattle.sv_model.specs.Holding.{items_of};
 ghost use Rattle.sv_model.specs.Laws.{left_by_items};
 ghost use Rattle.sv_model.specs.Lawful.{IsLawful};
 ghost use Rattle.sv_model.specs.Fences.{has_signal};
-ghost use Rattle.sv_sema.specs.Stands.{StandFor as SemaphoresStandFor};
-ghost use Rattle.sv_fence.specs.Stands.{StandFor as FencesStandFor};
+ghost use Rattle.sv_sema.specs.Stands.{SemaphoresStandFor};
+ghost use Rattle.sv_fence.specs.Stands.{FencesStandFor};
 ghost use Rattle.sv_gate.specs.declared.waiting.Waiting.{Waiting};
 ghost use Rattle.sv_gate.specs.Calls.{NamesItsFence, batches_by, kept_call, kept_of_mark, ready_call};
 ghost use Rattle.sv_gate.specs.Kept.{Agrees};

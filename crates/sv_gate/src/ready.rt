@@ -6,7 +6,7 @@ ghost use Rattle.sv_model.specs.declared.line.Trace.{Trace};
 ghost use Rattle.sv_model.specs.Primitives.{Made};
 ghost use Rattle.sv_model.specs.Semaphores.{current_value};
 ghost use Rattle.sv_model.specs.Semaphores as enabled;
-ghost use Rattle.sv_sema.specs.Stands.{StandFor, IsUseOf};
+ghost use Rattle.sv_sema.specs.Stands.{SemaphoresStandFor, IsUseOf};
 ghost use Rattle.sv_gate.specs.Kept.{past_of, found, AreUsesOf, IsBatchOf};
 
 use sv_model::line::{Batch, SemaphoreUse};
@@ -23,14 +23,15 @@ fn is_found(pairing: Pairing) -> bool
 }
 
 fn serves(sema: &Semaphores, sem: u32, value: u64) -> bool
-    ensures { (t : Trace) (m : Made) → StandFor t m sema.now → IsUseOf t sem (Some value) → result
+    ensures { (t : Trace) (m : Made) → SemaphoresStandFor t m sema.now → IsUseOf t sem (Some value) → result
         ≡ nat_le value (current_value t m sem) }
 {
     is_found(sema.pair(sem, Some(value)))
 }
 
 fn is_served(sema: &Semaphores, wait: SemaphoreUse) -> bool
-    ensures { (t : Trace) (m : Made) → StandFor t m sema.now → IsUseOf t wait.sem wait.value → result
+    ensures { (t : Trace) (m : Made) → SemaphoresStandFor t m sema.now → IsUseOf t wait.sem wait.value
+        → result
         ≡ enabled.wait_served (past_of t m) wait }
 {
     match wait.value {
@@ -60,7 +61,7 @@ fn is_balanced(free: bool, waits: usize, signals: usize) -> bool
 }
 
 fn fits(sema: &Semaphores, batch: &Batch, one: SemaphoreUse) -> bool
-    ensures { (t : Trace) (m : Made) → StandFor t m sema.now → IsUseOf t one.sem one.value → result
+    ensures { (t : Trace) (m : Made) → SemaphoresStandFor t m sema.now → IsUseOf t one.sem one.value → result
         ≡ enabled.use_fits (past_of t m) batch.now one }
 {
     match one.value {
@@ -75,7 +76,7 @@ fn fits(sema: &Semaphores, batch: &Batch, one: SemaphoreUse) -> bool
 }
 
 fn all_served(sema: &Semaphores, waits: &[SemaphoreUse]) -> bool
-    ensures { (t : Trace) (m : Made) → StandFor t m sema.now → AreUsesOf t waits.now → result
+    ensures { (t : Trace) (m : Made) → SemaphoresStandFor t m sema.now → AreUsesOf t waits.now → result
         ≡ list_all (enabled.wait_served (past_of t m)) waits.now }
 {
     for wait in waits {
@@ -87,7 +88,7 @@ fn all_served(sema: &Semaphores, waits: &[SemaphoreUse]) -> bool
 }
 
 fn all_fit(sema: &Semaphores, batch: &Batch, uses: &[SemaphoreUse]) -> bool
-    ensures { (t : Trace) (m : Made) → StandFor t m sema.now → AreUsesOf t uses.now → result
+    ensures { (t : Trace) (m : Made) → SemaphoresStandFor t m sema.now → AreUsesOf t uses.now → result
         ≡ list_all (enabled.use_fits (past_of t m) batch.now) uses.now }
 {
     for one in uses {
@@ -100,7 +101,7 @@ fn all_fit(sema: &Semaphores, batch: &Batch, uses: &[SemaphoreUse]) -> bool
 
 /// Whether the batch may run.
 pub fn batch_is_ready(sema: &Semaphores, batch: &Batch) -> bool
-    ensures { (t : Trace) (m : Made) → StandFor t m sema.now → IsBatchOf t batch.now → result
+    ensures { (t : Trace) (m : Made) → SemaphoresStandFor t m sema.now → IsBatchOf t batch.now → result
         ≡ enabled.batch_ready (past_of t m) batch.now }
 {
     let served = all_served(sema, batch.waits.as_slice());

@@ -1,3 +1,4 @@
+//! Worked examples.
 use crate::Gate;
 use std::alloc::{AllocError, Global};
 use std::test::Fail;

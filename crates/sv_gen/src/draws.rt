@@ -1,4 +1,4 @@
-// Draws of a linear congruential generator.
+//! Draws of a linear congruential generator.
 ghost use Rattle.std.specs.Prelude.{◌≡◌, ◌<◌};
 ghost use Rattle.sv_gen.specs.Draws.{next_state, state_after, drawn};
 

@@ -1,4 +1,4 @@
-// The lines of a trace.
+//! The lines of a trace.
 ghost use Rattle.std.specs.Prelude.{◌≡◌, ◌<◌, ◌++◌, OnOk, string_bytes};
 ghost use Rattle.sv_gen.specs.Generated.{opening_text, op_text, member_text, begin_line, end_line};
 ghost use Rattle.sv_gen.specs.Generated.{access_name, access_text, work_line, deps_text, barrier_line};

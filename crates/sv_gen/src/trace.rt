@@ -1,4 +1,4 @@
-// Works, recordings and the whole trace.
+//! Works, recordings and the whole trace.
 ghost use Rattle.std.specs.Prelude.{◌≡◌, ℕ, ◌+◌, ◌*◌, ◌<◌, ◌≤◌, ◌++◌, OnOk, IfOk, string_bytes};
 ghost use Rattle.sv_gen.specs.Draws.{state_after};
 ghost use Rattle.sv_gen.specs.Generated.{work_text, works_text, recording_text, generated};

@@ -1,3 +1,4 @@
+//! Worked examples.
 use super::*;
 use std::alloc::AllocError;
 use std::test::Fail;

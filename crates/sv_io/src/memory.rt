@@ -1,4 +1,4 @@
-// A source and a sink in memory, whose calls follow a script of piece sizes and faults.
+//! A source and a sink in memory, whose calls follow a script of piece sizes and faults.
 ghost use Rattle.std.specs.Prelude.{◌≡◌, ℕ, ◌+◌, ◌-◌, ◌^◌, ◌≤◌, ◌<◌, ◌↔◌, [], length, IfOk, Some, drop};
 ghost use Rattle.std.specs.Prelude.{min, vec_len, false, All, Contains, IsErr, IsNone, IfSome};
 ghost use Rattle.std.specs.Io.{ReadsAtMost};

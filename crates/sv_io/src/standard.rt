@@ -1,4 +1,4 @@
-// Standard input and output: what comes in and goes out there, no clause can say.
+//! Standard input and output: what comes in and goes out there, no clause can say.
 ghost use Rattle.std.specs.Prelude.{◌≡◌, [], None, false};
 
 use crate::{Failed, Sink, Source};

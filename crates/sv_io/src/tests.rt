@@ -1,3 +1,4 @@
+//! Worked examples.
 use super::*;
 use std::test::Fail;
 

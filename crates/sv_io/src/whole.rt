@@ -1,4 +1,4 @@
-// Whole texts, read to their end and written to their last byte.
+//! Whole texts, read to their end and written to their last byte.
 ghost use Rattle.std.specs.Prelude.{◌≡◌, ◌≢◌, ℕ, true, ◌+◌, ◌<◌, ◌≤◌, ◌↔◌, length, take, vec_len, IfOk};
 ghost use Rattle.std.specs.Prelude.{IfSome, OnErr, OnOk, IsErrOf};
 ghost use Rattle.std.specs.Io.KnownBytes.{Appends, IsAtEnd};

@@ -1,3 +1,4 @@
+//! What is found of a part of a line: a flaw, or none and a value.
 ghost use Rattle.std.specs.Prelude.{◌≡◌, ℕ};
 ghost use Rattle.sv_json.specs.Flaw.{least, number_of};
 ghost use Rattle.sv_json.specs.Form as spec;

@@ -1,3 +1,4 @@
+//! Masks: names that are joined.
 ghost use Rattle.std.specs.Prelude.{◌≡◌};
 ghost use Rattle.serde_json.specs.View.{view, items_view};
 ghost use Rattle.sv_json.specs.Form.{found, items_flaw, items_say, joined, mask, member};

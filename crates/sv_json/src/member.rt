@@ -1,3 +1,4 @@
+//! Members of objects, by their names.
 ghost use Rattle.std.specs.Prelude.{◌≡◌};
 ghost use Rattle.serde_json.specs.View.{view};
 ghost use Rattle.sv_json.specs.Form.{both_or_neither, has, maybe, member, or_else};

@@ -1,3 +1,4 @@
+//! Numbers within bounds, and truth values.
 ghost use Rattle.std.specs.Prelude.{◌≡◌};
 ghost use Rattle.serde_json.specs.View.{view};
 ghost use Rattle.sv_json.specs.Form.{any_number, between, truth};

@@ -1,3 +1,4 @@
+//! Parts in the place of a name.
 ghost use Rattle.std.specs.Prelude.{◌≡◌};
 ghost use Rattle.std.specs.Option.{option_map_or};
 ghost use Rattle.sv_json.specs.Form.{found};

@@ -1,3 +1,4 @@
+//! Worked examples.
 use crate::{
     Access16, AccessWord, Accesses, Layout, Stage, StageWord, Stages, Usage, Usages, access_of,
     is_write, stage_of,

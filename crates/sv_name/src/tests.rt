@@ -1,3 +1,4 @@
+//! Worked examples.
 use crate::{access_bits, layout, layout_text, plain_access, plain_stage, stage_bits, usage_text};
 use sv_mask::{Access16, AccessWord, Accesses, Layout, Stage, StageWord, Stages, Usage};
 

@@ -10,11 +10,11 @@ use Rattle.sv_model.specs.Primitives.{FenceChange, InForce, Made, Signal, EventC
 use Rattle.sv_model.specs.Fences.{fence_by}
 use Rattle.sv_model.specs.declared.line.Trace.{Trace}
 use Rattle.sv_model.specs.declared.work.Group.{Group}
-use Rattle.sv_event.specs.Stands.{StandFor as EventsStandFor}
+use Rattle.sv_event.specs.Stands.{EventsStandFor}
 use Rattle.sv_event.specs.declared.events.Events.{Events}
-use Rattle.sv_fence.specs.Stands.{StandFor as FencesStandFor}
+use Rattle.sv_fence.specs.Stands.{FencesStandFor}
 use Rattle.sv_fence.specs.declared.fences.Fences.{Fences}
-use Rattle.sv_sema.specs.Stands.{IsBinary, IsTimeline, StandFor as SemaphoresStandFor, is_of, raise_of}
+use Rattle.sv_sema.specs.Stands.{IsBinary, IsTimeline, SemaphoresStandFor, is_of, raise_of}
 use Rattle.sv_sema.specs.declared.semaphores.Semaphores.{Semaphores}
 use Rattle.sv_sema.specs.declared.timeline.Timeline.{Timeline}
 use Rattle.sv_step_laws.specs.Steps.{IsGroupOf}

@@ -14,9 +14,9 @@ use Rattle.sv_binding.specs.declared.run.Run.{Run}
 use Rattle.sv_model.specs.declared.line.Trace.{Trace}
 use Rattle.sv_model.specs.declared.work.Note.{Note}
 use Rattle.sv_model.specs.declared.work.Step.{Step}
-use Rattle.sv_event.specs.Stands.{StandFor as EventsStandFor}
-use Rattle.sv_fence.specs.Stands.{StandFor as FencesStandFor}
-use Rattle.sv_sema.specs.Stands.{StandFor as SemaphoresStandFor}
+use Rattle.sv_event.specs.Stands.{EventsStandFor}
+use Rattle.sv_fence.specs.Stands.{FencesStandFor}
+use Rattle.sv_sema.specs.Stands.{SemaphoresStandFor}
 use Rattle.sv_step_laws.specs.Steps.{IsGroupOf, IsStepOf}
 use Rattle.sv_replies.specs.Replying.{IsReplySoFar}
 use Rattle.sv_steps.specs.Checked.{HaveAreas, StandForSteps}

@@ -1,4 +1,4 @@
-// The lines of the events of a history.
+//! The lines of the events of a history.
 ghost use Rattle.std.specs.Prelude.{◌≡◌, ◌++◌, IfOk, OnOk, length, string_bytes};
 ghost use Rattle.std.specs.Option.{option_copied, option_map};
 ghost use Rattle.sv_index.specs.Indexes.{IsIndexOf};

@@ -1,4 +1,4 @@
-// The lines of events and their replies, and the total.
+//! The lines of events and their replies, and the total.
 ghost use Rattle.std.specs.Prelude.{◌≡◌, ◌++◌, OnOk, string_bytes};
 ghost use Rattle.sv_report.specs.Lines.{publish_line, call_text, call_line, report_line, count_text};
 ghost use Rattle.sv_report.specs.Lines.{counts_text, total_line};

@@ -1,4 +1,4 @@
-// The lines of notes and of held items.
+//! The lines of notes and of held items.
 ghost use Rattle.std.specs.Prelude.{◌≡◌, ◌++◌, OnOk, string_bytes};
 ghost use Rattle.sv_report.specs.Notes.{element_text, action_text, owner_text, setter_text, note_start};
 ghost use Rattle.sv_report.specs.Notes.{found_text, values_text, signal_text, layout_note_line};

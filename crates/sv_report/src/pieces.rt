@@ -1,4 +1,4 @@
-// What the printed lines are made of.
+//! What the printed lines are made of.
 ghost use Rattle.std.specs.Prelude.{◌≡◌, ◌++◌, OnOk, string_bytes};
 ghost use Rattle.sv_report.specs.Pieces.{kind_text, area_text, usage_word, what_text, place_text};
 ghost use Rattle.sv_report.specs.Pieces.{access_text};

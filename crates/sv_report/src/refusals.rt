@@ -1,4 +1,4 @@
-// The line of a refused trace.
+//! The line of a refused trace.
 ghost use Rattle.std.specs.Prelude.{◌≡◌, ◌++◌, OnOk, IfOk, string_bytes};
 ghost use Rattle.sv_report.specs.Lines.{limit_text, cause_text, refusal_line};
 

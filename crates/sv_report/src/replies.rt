@@ -1,4 +1,4 @@
-// The lines of a reply.
+//! The lines of a reply.
 ghost use Rattle.std.specs.Prelude.{◌≡◌, ◌++◌, OnOk, IfOk, length, string_bytes};
 ghost use Rattle.std.specs.List.{flat_map};
 ghost use Rattle.sv_model.specs.Replies.{reports_before};

@@ -1,3 +1,4 @@
+//! Worked examples.
 ghost use Rattle.std.specs.Prelude.{◌≡◌, IfOk};
 
 use super::*;

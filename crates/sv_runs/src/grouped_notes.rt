@@ -1,4 +1,4 @@
-// Notes behind the reports of a reply that was grouped.
+//! Notes behind the reports of a reply that was grouped.
 ghost use Rattle.std.specs.Prelude.{◌≡◌, ℕ, All, IfOk, get_or, map};
 ghost use Rattle.sv_model.specs.Notes.{cells_of_notes, IsNoteRun};
 ghost use Rattle.sv_model.specs.Replies.{note_behind, reports_before};

@@ -1,4 +1,4 @@
-// Replies in greatest runs of neighbouring cells.
+//! Replies in greatest runs of neighbouring cells.
 ghost use Rattle.std.specs.Prelude.{◌≡◌, ℕ, All, IfOk, List, get_or};
 ghost use Rattle.sv_model.specs.Replies.{IsReply};
 ghost use Rattle.sv_model.specs.Reports.{spots_of};

@@ -1,3 +1,4 @@
+//! Worked examples.
 ghost use Rattle.std.specs.Prelude.{◌<◌, All, IfOk};
 ghost use Rattle.sv_runs.specs.Grouped.{HasNoteRun, HasRun};
 

@@ -1,3 +1,4 @@
+//! The counts of actors, which stand on one table.
 ghost use Rattle.std.specs.Prelude.{◌≡◌, ℕ, [], ◌+◌, ◌<◌, ◌≤◌, IfOk, length, replicate, slice_index};
 ghost use Rattle.std.specs.Prelude.{slice_index_or, slice_set};
 ghost use Rattle.sv_share.specs.Views.{dealing};

@@ -1,4 +1,4 @@
-// What a seat of the board knows, and the steps.
+//! What a seat of the board knows, and the steps.
 use atomic_table::{Join, Play, Seat, Shared, Split, Table, TableRule};
 use std::alloc::Global;
 use std::collections::LinkedList;

@@ -1,3 +1,4 @@
+//! The ops of lines, by their names.
 ghost use Rattle.std.specs.Prelude.{◌≡◌};
 ghost use Rattle.sv_mask.specs.Names.{named};
 ghost use Rattle.sv_trace.specs.Ops as spec;

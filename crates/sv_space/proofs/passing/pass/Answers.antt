@@ -7,7 +7,8 @@ pub returns-then-count-gt0-clause-quiet : goal.returns-then-count-gt0-clause-qui
 returns-then-count-gt0-clause-quiet c = quiet_part c.args.state.now c.args.patterns.now.items
     c.args.numbers.now.items c.args.blocks.now.items c.index-block.result.now c.args.place
     c.quiet_count-count.result c.ask.new.asked.quiet c.requires.marked c.ask.ensures.quiet
-    c.index-block.ensures c.quiet_count-count.ensures.within (c.quiet_count-count.ensures.quiet c.if-count-gt0.true)
+    c.index-block.ensures c.quiet_count-count.ensures.within
+    (c.quiet_count-count.ensures.quiet c.if-count-gt0.true)
 
 pub returns-clause-quiet : goal.returns-clause-quiet
 returns-clause-quiet c = quiet_one c.args.state.now c.args.patterns.now.items c.args.numbers.now.items
