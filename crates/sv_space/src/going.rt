@@ -76,7 +76,7 @@ fn go_on(
     if next < groups.len() {
         let group = &groups[next];
         state.come_to(group.step)?;
-        state.extend(group, at)?;
+        state.extend_in_place(group, at)?;
         Ok(next + 1)
     } else {
         state.come_to(groups[next - 1].step)?;

@@ -269,9 +269,20 @@ impl CellState {
         Ok(())
     }
 
-    /// Goes through the dependencies of a group on one cell. Where memory is missing the state is
-    /// only to be dropped.
+    /// Goes through the dependencies of a group on one cell. Where memory is missing the state is as before.
     pub fn extend(&mut self, group: &Group, at: &Area) -> Result<(), AllocError>
+        ensures grows { OnOk result ((cell : Cell) → IsOnly at.now cell → self.old.step ≤ group.now.step
+            → HasGrown cell group.now self.old self.new) }
+        ensures fault { IfErr result (λ e. self.new ≡ self.old) }
+    {
+        let mut next = self.copy()?;
+        next.extend_in_place(group, at)?;
+        *self = next;
+        Ok(())
+    }
+
+    /// As `extend`, and no copy is made: where memory is missing the state is only to be dropped.
+    pub fn extend_in_place(&mut self, group: &Group, at: &Area) -> Result<(), AllocError>
         ensures grows { OnOk result ((cell : Cell) → IsOnly at.now cell → self.old.step ≤ group.now.step
             → HasGrown cell group.now self.old self.new) }
         ensures keeps { OnOk result ((outlines : List Dep) → AreFull (spec.live_of self.old) outlines
