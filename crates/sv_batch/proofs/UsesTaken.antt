@@ -44,31 +44,6 @@ use Rattle.sv_batch.specs.Running.{pairing_groups}
 
 -- Waits.
 
-given_by : (r : Run) (u : SemaphoreUse) (o : Option Signal) → pairing_groups r u (signal_pairing o)
-    ≡ map (λ (x : Signal). from_token (place_in (run_for 0 r)) x.token r.queue (second_sync u.stages)
-    (usages_at u.stages)) (option_to_list o)
-given_by r u None = refl
-given_by r u (Some x) = refl
-
-given_for : (t : Trace) (m : Made) (r : Run) (u : SemaphoreUse) (sem : ℕ) (value : Option ℕ)
-    → pairing_groups r u (pairing_of t m sem value)
-    ≡ map (λ (x : Signal). from_token (place_in (run_for 0 r)) x.token r.queue (second_sync u.stages)
-    (usages_at u.stages)) (option_to_list (pair_for t m sem value))
-given_for t m r u sem None = given_by r u (binary_pair m sem)
-given_for t m r u sem (Some value) = by_test (nat_le value (initial_value t sem))
-  where
-    by_test : (b : Bool) → pairing_groups r u (if b then Initial else signal_pairing
-        (find (serves sem value) m.signals)) ≡ map (λ (x : Signal). from_token
-        (place_in (run_for 0 r)) x.token r.queue (second_sync u.stages) (usages_at u.stages))
-        (option_to_list (if b then None else find (serves sem value) m.signals))
-    by_test true = refl
-    by_test false = given_by r u (find (serves sem value) m.signals)
-
--- the group of a wait is that of its pair
-pub wait_groups : (t : Trace) (event : ℕ) (m : Made) (r : Run) (u : SemaphoreUse) (p : Pairing) → p
-    ≡ pairing_of t m u.sem u.value → pairing_groups r u p ≡ wait_given t (run_for event r) m u
-wait_groups t event m r u p is = ap (pairing_groups r u) is ∙ given_for t m r u u.sem u.value
-
 token_group_is : (t : Trace) (g : Group) (d : Dep) → g.deps ≡ d ∷ [] → d.range ≡ None → g.transitions ≡ []
     → g.olds ≡ [] → g.transfer ≡ None → IsGroupOf t g
 token_group_is t g d deps none transitions olds transfer =

@@ -62,12 +62,6 @@ names : (t : Trace) (lane : ℕ) (o : Option Line) → MatchOption o (Unit {0}) 
 names t lane None h = tt
 names t lane (Some call) h = call_names t lane call h
 
--- no call gives no step
-pub no_call : (t : Trace) (event : ℕ) (r : binding.Run) (w : Work) (o : Option Line) → o ≡ None
-    → IsAfter t event (λ (m : Made). call_given t r m o) (λ (m : Made). call_made m o) w w
-no_call t event r w o e = subst (λ (x : Option Line). IsAfter t event (λ (m : Made). call_given t r m x)
-    (λ (m : Made). call_made m x) w w) (sym e) (λ old more m at. stays t event old more m w [] refl at)
-
 module _ (t : Trace) (history : List Mark) (latest : Mark) (now : Flow) (more : List Bound)
     (lawful : IsLawful t) (way : IsWay t history latest now more) where
   events_are : now.holding.events ≡ longer history latest

@@ -34,19 +34,6 @@ kept_first t named v b lawful trace history book =
           (subst (Counts t (replicate 32 0)) (sym history) (counts_none t));
     }
 
--- nothing changed but the replies
-pub kept_same : (t : Trace) (named : TableId) (v w : State) (b d : BookIs) → IsKept t named v b → w.trace
-    ≡ v.trace → w.history ≡ v.history → d ≡ b → IsKept t named w d
-kept_same t named v w b d k trace history book =
-    let counts : d.counts ≡ b.counts = ap (λ (x : BookIs). x.counts) book in record {
-      lawful = k.lawful;
-      trace = trace ∙ k.trace;
-      board = ap (λ (x : BookIs). x.board) book ∙ k.board;
-      wide = ap length counts ∙ k.wide;
-      counts = subst (λ l. Counts t l w.history) (sym counts)
-          (subst (Counts t b.counts) (sym history) k.counts);
-    }
-
 index_below : (t : Trace) (index place : ℕ) (m : Mark) → IsLawful t → IsEventAt t index place m → index < 32
 index_below t index place m lawful e =
     let lt = slice_get_within (actors_of t) index e.who e.actor in

@@ -1,7 +1,6 @@
 pub mod Seats
 pub mod Steps
 pub mod Counting
-pub mod Sizes
 pub mod Pushing
 pub mod Keeping
 pub mod Items

@@ -26,9 +26,6 @@ use Rattle.sv_space.proofs.Keeping.{known_part, known_caught, may_follow}
 same_or_other : (a b : ℕ) → (a ≡ b) ⊎ (a ≡ b → ⊥)
 same_or_other a b = grind arith
 
-below_or : (c n : ℕ) → (c < n) ⊎ (n ≤ c)
-below_or c n = grind arith
-
 -- one cell is in one mip
 pub one_in_mip : (s : Shape) (size n : ℕ) → IsShaped s size → IsInMip s (record { start = n; end = n + 1 })
 one_in_mip shape.Bytes size n shaped = tt

@@ -170,22 +170,3 @@ own_at work steps (Groups groups) next cell x on d in_own =
 own_at work steps (SetEvent event place groups) next cell x on d in_own = absurd (let h = on.1 in omega arith)
 own_at work steps (WaitEvent event place) next cell x on d in_own = absurd (let h = on.1 in omega arith)
 own_at work steps (ResetEvent event place) next cell x on d in_own = absurd (let h = on.1 in omega arith)
-
-pub own_here : (groups : List Group) (i n : ℕ) (g : Group) → i < length groups → get_or groups i g ≡ g → n
-    < length g.transitions → own_group (drop i groups) n ≡ Some g
-own_here (h ∷ groups) zero n g lt is less = subst (λ (y : Group). own_group (h ∷ groups) n ≡ Some y) is
-    (here_is h groups n (subst (λ (y : Group). n < length y.transitions) (sym is) less))
-own_here (h ∷ groups) (suc i) n g lt is less = own_here groups i n g (omega arith) is less
-own_here [] i n g lt is less = absurd (omega arith)
-
-pub own_later : (groups : List Group) (i n : ℕ) (g : Group) → i < length groups → get_or groups i g ≡ g
-    → length g.transitions ≤ n → own_group (drop i groups) n
-    ≡ own_group (drop (i + 1) groups) (n - length g.transitions)
-own_later (h ∷ groups) zero n g lt is le = subst (λ (y : Group). own_group (h ∷ groups) n
-    ≡ own_group groups (n - length y.transitions)) is
-    (later_is h groups n (subst (λ (y : Group). length y.transitions ≤ n) (sym is) le))
-own_later (h ∷ groups) (suc i) n g lt is le = let s : suc i + 1 ≡ suc (i + 1) = omega arith in
-    subst (λ (m : ℕ). own_group (drop i groups) n
-    ≡ own_group (drop m (h ∷ groups)) (n - length g.transitions)) (sym s)
-    (own_later groups i n g (omega arith) is le)
-own_later [] i n g lt is le = absurd (omega arith)

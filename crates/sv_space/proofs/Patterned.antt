@@ -135,9 +135,6 @@ told_place block new spot number over is = record {
   lone = λ more. has_with block.lone new.lone spot is;
 }
 
-pub has_all : (block : Block) → HasAll block block
-has_all block = record { patterns = λ n h. h; lone = λ n h. h }
-
 -- the members of a set that come before the lowest of those from one on
 pub clear_below : (known from rest count k : ℕ) → from < 64 → rest ≡ known / 2 ^ from → rest < 2 ^ 64
     → count ≤ trailing_zeros w64 rest → from ≤ k → k < from + count → ¬ Has known k
