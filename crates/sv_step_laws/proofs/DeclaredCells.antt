@@ -64,11 +64,11 @@ covered_is_declared t area cell of on = subst (λ (res : ℕ). HasCell (resource
     (same_resource area cell on) (has_cell (resource_of t (area_resource area)) area cell of on)
 
 access_is : (t : Trace) (s : Step) (a : Access) → IsStepOf t s → Contains (accesses_of s) a → IsAccessOf t a
-access_is t (Accesses list) a of on = All-contains (IsAccessOf t) list of a on
+access_is t (Accesses list) a of on = All-contains (IsAccessOf t) list a of on
 access_is t (Groups list) a of on =
     let g = in_flat_map (λ (g : Group). g.transitions) list a on in
-    let is = All-contains (IsGroupOf t) list of g.0 g.1 in
-    All-contains (IsAccessOf t) g.0.transitions is.transitions a g.2
+    let is = All-contains (IsGroupOf t) list g.0 of g.1 in
+    All-contains (IsAccessOf t) g.0.transitions a is.transitions g.2
 access_is t (SetEvent event place list) a of on = absurd (let h = on.1 in omega (arith, h))
 access_is t (WaitEvent event place) a of on = absurd (let h = on.1 in omega (arith, h))
 access_is t (ResetEvent event place) a of on = absurd (let h = on.1 in omega (arith, h))
@@ -79,5 +79,5 @@ reported_is_declared t steps s of is =
     let on = in_filter (λ (a : Access). covers a.area s.cell) (flat_map accesses_of steps) s.later
     is.reported.listed in
     let step = in_flat_map accesses_of steps s.later on.0 in
-    let access = access_is t step.0 s.later (All-contains (IsStepOf t) steps of step.0 step.1) step.2 in
+    let access = access_is t step.0 s.later (All-contains (IsStepOf t) steps step.0 of step.1) step.2 in
     covered_is_declared t s.later.area s.cell access.area on.1
