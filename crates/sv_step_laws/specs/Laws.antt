@@ -1,5 +1,5 @@
 -- What holds of the steps of a lawful trace, of numbered steps, and of the cells that are reported.
-use Rattle.std.specs.Prelude.{ℕ}
+use Rattle.std.specs.Prelude.{ℕ, List}
 use Rattle.std.specs.List.{All}
 use Rattle.sv_model.specs.Cells.{IsCell}
 use Rattle.sv_model.specs.Recordings.{compile}
